@@ -45,7 +45,7 @@ pub data Step : Type 0 where
 abbrev pub fresh : Lane
 fresh = record { sent = []; received = []; rest = [] }
 
--- a number sent behind the others
+-- a number sent after the others
 abbrev pub pushed : Lane → ℕ → Lane
 pushed l v = record l { sent = l.sent ++ v ∷ []; rest = l.rest ++ v ∷ [] }
 

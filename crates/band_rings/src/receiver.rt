@@ -52,7 +52,7 @@ impl LaneReceiver {
         ensures lane { self.new.lane ≡ self.old.lane }
         ensures within { result ≤ length room.old }
         ensures received { self.new.received ≡ self.old.received ++ take result room.new }
-        ensures behind { drop result room.new ≡ drop result room.old }
+        ensures rest { drop result room.new ≡ drop result room.old }
         ensures seen { IsPrefix self.old.known (take result room.new ++ self.new.known) }
         ensures most { result < length room.old → self.new.known ≡ [] }
         ensures known { min (length self.old.known) (length room.old) ≤ result }

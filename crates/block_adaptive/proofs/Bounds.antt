@@ -1,4 +1,4 @@
--- Fundamental sequences that are read first, and judged all at once.
+-- Fundamental sequences that are read first, and checked all at once.
 use Rattle.std.proofs.Common.{◌≡◌, ℕ, zero, suc, ◌≤◌, Bool, List, ◌∷◌, Ok, sym, ap, subst, ◌∙◌}
 use Rattle.std.specs.List.{AllByRecursion}
 use Rattle.cube_core.specs.Steps.{◌>>=◌}

@@ -30,7 +30,7 @@ numbers_of s size reference n data_sets = take n (values_of (blocks_told (cut_of
 abbrev pub numbers_at : ℕ → CodeSet → ℕ → ℕ → ℕ → Reading (List ℕ)
 numbers_at count s size reference n = as_at (numbers_of s size reference n) (block_body_at count s size reference n)
 
--- the same bits are left behind them
+-- the same bits are left after them
 pub same_left : (count : ℕ) (s : CodeSet) (size reference n : ℕ) (bits : List Bool) → (block_body_at count s size reference n bits >>= λ read. Ok read.1)
     ≡ (numbers_at count s size reference n bits >>= λ read. Ok read.1)
 unfolding as_at

@@ -1,4 +1,4 @@
--- Bits gathered behind a writer, and codes gathered in a word.
+-- Bits gathered after a writer, and codes gathered in a word.
 use Rattle.std.proofs.lemmas.Nat.{and_mask, shr_below}
 use Rattle.std.proofs.lemmas.Grind.{common_steps}
 use Rattle.std.proofs.Common.{◌≡◌, ℕ, ◌+◌, ◌-◌, ◌*◌, ◌/◌, ◌%◌, ◌^◌, ◌<◌, ◌≤◌, Bool, List, [], ◌++◌, length, take, drop, bit_or, sym, ap, ◌∙◌, append_assoc}
@@ -29,7 +29,7 @@ pub ruleset append_steps = (appends_part, appends_word, length-bits_of, shr_belo
 
 pub ruleset flush_steps = (common_steps, and_mask, bits_of-mod, length-bits_of)
 
--- ---- bits that stand one behind another
+-- ---- bits that come one after another
 
 module _ {old mid new : Written} {was between now x y : List Bool} where
   pub appends_both : Appends old was mid between x → Appends mid between new now y → Appends old was new now (x ++ y)

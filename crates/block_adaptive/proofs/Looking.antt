@@ -13,7 +13,7 @@ use Rattle.block_adaptive.proofs.Codes.{fundamental_again}
 use Rattle.header_bits.proofs.Tops.{IsTop, parts}
 use Rattle.header_bits.proofs.Zeros.{length-fundamental}
 
--- the bits ahead are those of a code and what is ahead behind it
+-- the bits ahead are those of a code and what is ahead after it
 uses : (a b : Ahead) (text left : List Bool) → b.peeked ≡ a.peeked → b.known + length text ≡ a.known → bits_of a.known a.word ≡ text ++ bits_of b.known b.word
     → IsAhead a left → Uses a b text left
 uses a b text left same size is h =
@@ -42,7 +42,7 @@ code_used a j left top h =
     ∙ parts (z + 1) j 1 a.word (omega (arith, top.least)) (omega (arith, top.most)) ∙ ap (λ x. x ++ bits_of j (a.word - 1 * 2 ^ j)) (bits_of-fundamental _)) in
     uses a (record { peeked = a.peeked; known = j; word = a.word - 2 ^ j }) (fundamental z) left refl (omega (arith, length-fundamental z)) is h
 
--- and what is ahead behind it
+-- and what is ahead after it
 pub code_word : (a : Ahead) (j : ℕ) → IsWord a → IsTop a.word a.known j → IsWord (record { peeked = a.peeked; known = j; word = a.word - 2 ^ j })
 code_word a j word top = record { few = omega (arith, word.few, top.inside); below = omega (arith, top.most, top.least) }
 

@@ -80,7 +80,7 @@ taken_run v held new reader left list cut more none e front given bits h =
 pub taken_kept : (v held : Unpacked) (reader : Unread) (left : List Bool) → next_data_set v reader ≡ Ok (held, left) → held.refused ≡ v.refused
 taken_kept v held reader left e = grind arith
 
--- ---- one run behind another
+-- ---- one run after another
 
 pub runs_joined : (v mid new : Unpacked) (given xs ys : List ℕ) (bits unread now left : List Bool) → mid.cut ≡ v.cut
     → (g : GivesAll v given bits unread mid now xs) → GivesAll mid (given ++ xs) (bits ++ g.1) now new left ys
@@ -92,7 +92,7 @@ runs_joined v mid new given xs ys bits unread now left same g m = (
   rw (← append_assoc given xs ys, ← append_assoc bits g.1 m.1) m.3,
 )
 
--- a refusal behind numbers that were given is that of the body
+-- a refusal after numbers that were given is that of the body
 pub run_refused : (v mid : Unpacked) (count now_count : ℕ) (xs given : List ℕ) (bits unread now : List Bool) (e : Fault) → mid.cut ≡ v.cut → now_count ≡ count
     → (g : GivesAll v given bits unread mid now xs) → ((ns : List ℕ) (bs : List Bool) → HasGiven mid ns bs
     → data_sets_at now_count mid.cut mid.cut.count 0 (bs ++ now) ≡ Err e) → data_sets_at count v.cut v.cut.count 0 (bits ++ unread) ≡ Err e

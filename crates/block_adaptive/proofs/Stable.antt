@@ -1,4 +1,4 @@
--- Bits behind those that were read change nothing, but for a data set that they end too early.
+-- Bits after those that were read change nothing, but for a data set that they end too early.
 use Rattle.std.proofs.Common.{◌≡◌, ◌⊎◌, ◌+◌, ◌-◌, ◌*◌, ◌/◌, ◌^◌, ℕ, eqb, ltb, zero, suc, Bool, List, [], ◌∷◌, ◌++◌, Result, Ok, Err, refl, ap}
 use Rattle.std.proofs.Common.{◌∙◌, inl, inr, arith}
 use Rattle.cube_core.specs.declared.fault.Fault.{Fault}

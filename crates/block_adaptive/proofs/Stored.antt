@@ -1,4 +1,4 @@
--- The parts of a writer, behind a whole block.
+-- The parts of a writer, after a whole block.
 use Rattle.std.proofs.Common.{ℕ, ◌+◌, ◌-◌, ◌<◌, ◌≤◌, ◌*◌, ◌^◌, List, [], length, arith, lit<}
 use Rattle.std.proofs.lemmas.Nat.{mul-le}
 use Rattle.std.proofs.Math.Nat.{pow-le-pow_right}

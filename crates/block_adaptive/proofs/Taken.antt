@@ -80,7 +80,7 @@ pairs_takes site most (suc n) bits x e =
 abbrev Taken : CodeSet → ℕ → ℕ → List Bool → CodedDataSet × List Bool → Type 0
 Taken s size left bits x = (bits ≡ spelled s x.0 ++ x.1) × IsCodedDataSet s size left x.0
 
--- a block behind its identifier
+-- a block after its identifier
 block_takes : (site : Site) (s : CodeSet) (size left : ℕ) (o : Choice) (bits after : List Bool) (read : Result (List ℕ × List Bool) Fault)
     (x : CodedDataSet × List Bool) → IsOption s o → bits ≡ identifier s o ++ after
     → ((y : List ℕ × List Bool) → read ≡ Ok y → TakesList (coded s o) size (λ v. v < 2 ^ s.bits) after y) → block_read o read ≡ Ok x

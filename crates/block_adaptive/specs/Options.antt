@@ -50,7 +50,7 @@ quotient_sum k values = sum_by (λ v. v / 2 ^ k) values
 unfoldable pub low_groups : ℕ → List ℕ → List Bool
 low_groups k values = flat_map (λ v. bits_of k v) values
 
--- a block's bits under an option, behind the identifier
+-- a block's bits under an option, after the identifier
 unfoldable pub coded : CodeSet → Choice → List ℕ → List Bool
 coded s Uncoded values = low_groups s.bits values
 coded s Second values = pair_codes values

@@ -36,7 +36,7 @@ quotients_at s most (suc n) bits = do
   qs ← quotients_at s most n q.1
   Ok (q.0 ∷ qs.0, qs.1)
 
--- the value of a quotient and the k low bits behind it
+-- the value of a quotient and the k low bits after it
 unfoldable pub low_at : Site → ℕ → ℕ → ℕ → Reading ℕ
 low_at s k most q bits = do
   low ← number_at s.count k bits
@@ -68,7 +68,7 @@ words_at count depth (suc n) bits = do
 unfoldable pub pair_sum : ℕ → ℕ → ℕ
 pair_sum most m = greatest (λ sum. nat_le (sum * (sum + 1) / 2) m) (2 * most)
 
--- the pair with this number, each of its values judged
+-- the pair with this number, each of its values checked
 unfoldable pub pair_of : Site → ℕ → ℕ → Reading (ℕ × ℕ)
 pair_of s most m rest =
     let sum = pair_sum most m in

@@ -31,7 +31,7 @@ segments_from reference n (suc most) i =
 unfoldable pub segments : ℕ → ℕ → ℕ → List ℕ
 segments n size reference = segments_from reference (block_count size n) (block_count size n) 0
 
--- how many segments the blocks of n numbers make: in each whole interval as many as its 64s, a part counted too, and those of what is left behind
+-- how many segments the blocks of n numbers make: in each whole interval as many as its 64s, a part counted too, and those of what is left over
 abbrev pub segment_count : ℕ → ℕ → ℕ → ℕ
 segment_count n size reference =
     let count = block_count size n in

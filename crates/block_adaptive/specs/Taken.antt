@@ -12,11 +12,11 @@ pub record Writes (old new : Written) (text : List Bool) : Type 0 where
   pub appended : new.bits ≡ old.bits ++ text
   pub spent : old.room ≤ new.room + length text
 
--- a writer with bits behind it, for which it has room
+-- a writer with bits after it, for which it has room
 abbrev pub behind : Written → List Bool → Written
 behind w part = record { bits = w.bits ++ part; room = w.room - length part }
 
--- so too where some bits are gathered behind the writer, for which there is still room
+-- so too where some bits are gathered after the writer, for which there is still room
 pub record Appends (old : Written) (was : List Bool) (new : Written) (now text : List Bool) : Type 0 where
   pub writes : Writes (behind old was) (behind new now) text
   pub fits : length now ≤ new.room
@@ -36,27 +36,27 @@ taken_count v = (v.start + v.zeros) * v.cut.size + length v.held
 abbrev pub rest_of : ℕ → CodedDataSet
 rest_of left = if nat_le 5 left then RestOfSegment else Run left
 
--- the data sets of a block that isn't zeros, behind so many that are
+-- the data sets of a block that isn't zeros, after so many that are
 abbrev pub run_and_block : CodeSet → ℕ → List ℕ → List CodedDataSet
 run_and_block s zeros b = if zeros == 0 then Block (chosen_option s b) b ∷ [] else Run zeros ∷ Block (chosen_option s b) b ∷ []
 
--- the data sets that a whole block makes, behind blocks of zeros that are held
+-- the data sets that a whole block makes, after blocks of zeros that are held
 abbrev pub data_sets_after : CodeSet → ℕ → ℕ → List ℕ → List CodedDataSet
 data_sets_after s left zeros b =
     if is_zero b then (if zeros + 1 == left then rest_of left ∷ [] else [])
     else run_and_block s zeros b
 
--- how many blocks of zeros are held behind it
+-- how many blocks of zeros are held after it
 abbrev pub zeros_after : ℕ → ℕ → List ℕ → ℕ
 zeros_after left zeros b = if is_zero b then (if zeros + 1 == left then 0 else zeros + 1) else 0
 
--- behind a whole block
+-- after a whole block
 abbrev pub packed : Packed → List ℕ → Packed
 packed v b =
     let zeros = zeros_after (left_at v.cut v.start) v.zeros b in
     record v { start = v.start + (v.zeros + 1 - zeros); zeros = zeros; held = [] }
 
--- behind the last number: a block begun was filled with zeros and taken whole
+-- after the last number: a block begun was filled with zeros and taken whole
 abbrev pub ended : Packed → Packed
 ended v = if length v.held == 0 then v else packed v (filled v.cut.size v.held)
 

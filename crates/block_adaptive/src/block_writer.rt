@@ -213,7 +213,7 @@ impl BlockWriter {
     /// allocation fails; then nothing was changed, and the call may be repeated.
     pub fn end(&mut self, writer: &mut BitWriter) -> Result<(), Fault>
         ensures ended { OnOk result (EndsBody self.old writer.old.bits writer.new.bits) }
-        ensures behind { OnOk result (self.new ≡ ended self.old) }
+        ensures past { OnOk result (self.new ≡ ended self.old) }
         ensures same { OnErr result ((self.new ≡ self.old) × (writer.new.bits ≡ writer.old.bits)) }
         ensures refused { IfErr result (λ e. e ≡ WantOfMemory) }
         ensures memory { IfErr result (λ _. EndsInside self.old) }

@@ -50,7 +50,7 @@ fn quotients(reader: &mut BitReader, block: u64, most: u16, values: &mut [u16]) 
             return Ok(());
         }
     }
-    judged_codes(reader, block, most, values)
+    checked_codes(reader, block, most, values)
 }
 
 /// Reads a fundamental sequence for each value, and returns a number that none is above.
@@ -80,7 +80,7 @@ fn codes(reader: &mut BitReader, block: u64, values: &mut [u16]) -> Result<u16, 
     Ok(bound)
 }
 
-/// Reads the fundamental sequence behind the used bits, and looks ahead anew.
+/// Reads the fundamental sequence after the used bits, and looks ahead anew.
 #[inline(always)]
 #[tactic(auto, using(crate::proofs::Looking::code_read))]
 fn next_code(reader: &mut BitReader, block: u64, ahead: Ahead) -> Result<(u16, Ahead), Fault>
@@ -97,9 +97,9 @@ fn next_code(reader: &mut BitReader, block: u64, ahead: Ahead) -> Result<(u16, A
     Ok((quotient, look_ahead(reader)))
 }
 
-/// Reads a fundamental sequence for each value, and judges one after another.
+/// Reads a fundamental sequence for each value, and checks one after another.
 #[inline(never)]
-fn judged_codes(
+fn checked_codes(
     reader: &mut BitReader,
     block: u64,
     most: u16,

@@ -8,7 +8,7 @@ ghost use Rattle.block_adaptive.specs.Taken.{Writes, Appends};
 use header_bits::bit_writer::{BitWriter, filled_word};
 use std::marker::Model;
 
-/// Bits that come behind what a writer has, fewer than a word.
+/// Bits that follow those of a writer, fewer than a word.
 ///
 /// A word that is full goes to the writer. Where words alone are pushed, it doesn't depend on the position of a
 /// coded data set which push fills a word of the writer, so that the branch is predicted. Contracts see the bits.

@@ -22,12 +22,12 @@ pub fn chosen_is_lawful()
     ensures { ChosenIsLawful }
 {}
 
-/// What is read as a data set is lawful, and the bits begin with its spelling.
+/// What is read as a data set is lawful, and the bits begin with it.
 pub fn data_set_is_taken()
     ensures { DataSetIsTaken }
 {}
 
-/// No body of one list of numbers begins a body of another.
+/// No body of one list of numbers is a prefix of a body of another.
 pub fn one_body()
     ensures { OneBody }
 {}

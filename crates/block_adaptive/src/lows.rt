@@ -1,4 +1,4 @@
-//! The low bits of a block under a split-sample option, which come behind all its fundamental sequences.
+//! The low bits of a block under a split-sample option, which come after all its fundamental sequences.
 
 ghost use Rattle.std.specs.Prelude.{◌≡◌, ◌≤◌, ◌+◌, ◌*◌, ◌%◌, ◌^◌, ℕ, [], ◌∷◌, length};
 ghost use Rattle.std.specs.List.{AllByRecursion};

@@ -36,12 +36,12 @@ HasNoEnd {Input} opens has_none makes_none settings fault =
     ((name : List ℕ) × (name_in settings ≡ Some name) × (fault ≡ Read) × has_none name)
     ⊎ ((input : Input) × opens (name_in settings) input × (name : List ℕ) × (name_out settings ≡ Some name) × (fault ≡ Write 0) × makes_none input name)
 
--- the parameters that are judged before anything is read
-abbrev pub judged : Settings → Option Params
-judged Show = None
-judged (Compress settings from to) = Some settings.params
-judged (Expand layout from to) = None
-judged Inspect = None
+-- the parameters that are checked before anything is read
+abbrev pub checked_params : Settings → Option Params
+checked_params Show = None
+checked_params (Compress settings from to) = Some settings.params
+checked_params (Expand layout from to) = None
+checked_params Inspect = None
 
 -- raw samples have one byte or two
 abbrev pub HasLayout : Settings → Type 0

@@ -10,7 +10,7 @@ ghost use Rattle.command_words.specs.Words.{Ask, AskForNone};
 ghost use Rattle.command_devices.specs.Devices.{GaveWithin};
 ghost use Rattle.command_devices.specs.Reading.{ToldAsRead};
 ghost use Rattle.command_devices.specs.Writing.{IsWrite};
-ghost use Rattle.ccsds_command.specs.Command.{Does, HasLayout, HasNoEnd, IsFaultOf, IsPlanned, IsUnfilled, Ran, judged, limit_of, name_in, name_out};
+ghost use Rattle.ccsds_command.specs.Command.{Does, HasLayout, HasNoEnd, IsFaultOf, IsPlanned, IsUnfilled, Ran, checked_params, limit_of, name_in, name_out};
 
 use crate::compress::run_compress;
 use crate::expand::run_expand;
@@ -119,7 +119,7 @@ pub fn run_between<R: Threads + Wait + Sync, S: Source, K: Sink>(
     sink: &mut K,
 ) -> Result<(), Fault>
     requires { HasLayout settings.now }
-    ensures checked { (p : Parameters) (fault : Refusal) → judged settings.now ≡ Some p → params_fault p ≡ Err fault
+    ensures checked { (p : Parameters) (fault : Refusal) → checked_params settings.now ≡ Some p → params_fault p ≡ Err fault
         → (result ≡ Err fault) × (source.new ≡ source.old) × (sink.new ≡ sink.old) }
     ensures done { OnOk result (Does settings.now (S.left source.old) (K.taken sink.old) (K.taken sink.new)) }
     ensures planned { OnOk result (IsPlanned settings.now) }

@@ -104,7 +104,7 @@ fn text_of(alloc: Global, sizes: &[u8], shape: Shape, raw: &[u8]) -> Result<Vec<
     hexadecimal(alloc, &file)
 }
 
-/// Returns the shape that three sizes spell.
+/// Returns the shape of three sizes.
 fn shape_of(sizes: &[u8]) -> Shape
     requires { length sizes.now ≡ 6 }
     ensures { result ≡ sizes_of sizes.now }

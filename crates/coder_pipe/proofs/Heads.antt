@@ -3,7 +3,7 @@ use Rattle.std.proofs.Common.{◌≡◌, ℕ, suc, zero, ◌+◌, ◌<◌, List,
 use Rattle.std.proofs.Common.{Some, None, IfSome, inl, inr, ◌⊎◌}
 use Rattle.std.proofs.lemmas.List.{take_more, get_or-map}
 
--- the head of what is left, and what is left behind it
+-- the head of what is left, and what is left after it
 pub record Head {A : Type 0} (xs zs : List A) (n : ℕ) (x : A) : Type 0 where
   pub below : n < length xs
   pub here : (d : A) → get_or xs n d ≡ x

@@ -55,7 +55,7 @@ run_fits p deal numbers owner (suc count) lawful e one =
     let last : slice_get (owners deal p) (length numbers + count) ≡ Some owner = one count (omega arith) ∙ sym e in
     omega (arith, slice_get_within (owners deal p) (length numbers + count) owner last, length-owners deal p, length-places p.shape p.order lawful)
 
--- a run of numbers of one owner stands behind its part, and the other parts stay
+-- a run of numbers of one owner comes after its part, and the other parts stay
 part_run : (q owner : ℕ) (os ns run : List ℕ) → ((i : ℕ) → i < length run → slice_get os (length ns + i) ≡ Some owner)
     → part q os (ns ++ run) ≡ part q os ns ++ (if owner == q then run else [])
 part_run q owner os ns [] at = elim (cases_Bool (owner == q)) [ inl t ↦ rw (t, append-nil, append-nil) refl | inr t ↦ rw (t, append-nil, append-nil) refl ]
@@ -116,7 +116,7 @@ may_take p deal w numbers list most h lawful few is range = record {
   range = recursion_from_All (λ n. n < 2 ^ p.kind.bits) list (All-weaker (λ n. n ≤ most) (λ n. n < 2 ^ p.kind.bits) (λ n le. omega (arith, is, le)) list range);
 }
 
--- there are as many places as owners behind those taken
+-- there are as many places as owners after those taken
 pub owners_fit : (p : Params) (deal numbers some : List ℕ) → IsOrder p.shape p.order → length numbers ≤ sample_count p.shape
     → AreOwnersFrom (owners deal p) (length numbers) some → length numbers + length some ≤ sample_count p.shape
 owners_fit p deal numbers [] lawful few from = omega (arith, few)

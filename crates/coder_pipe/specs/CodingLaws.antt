@@ -1,4 +1,4 @@
--- Coding ends take lists one behind another.
+-- Coding ends take lists one after another.
 use Rattle.std.proofs.Common.{◌^◌, ◌<◌, ℕ, Bool, true, false, List, [], ◌∷◌, ◌++◌, refl, sym, subst, append-nil, append_assoc, length-append, arith}
 use Rattle.std.specs.List.{AllByRecursion}
 use Rattle.file_coding.specs.Ends.{Ending, HasCoded, MayCodeAll}

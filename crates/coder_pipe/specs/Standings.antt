@@ -22,7 +22,7 @@ pub record IsWoven (p : Params) (deal : List ℕ) (w : Weaving) (handed : List (
   pub long : length numbers ≡ count
   pub parts : (q : ℕ) → q < length handed → slice_index_or handed q [] ≡ part q (owners deal p) numbers
 
--- so many numbers were taken, and those ahead were handed on behind them, each by the predictor of its place
+-- so many numbers were taken, and those ahead were handed on after them, each by the predictor of its place
 pub record IsAhead (p : Params) (deal : List ℕ) (w : Weaving) (handed : List (List ℕ)) (count : ℕ) (ahead : List ℕ) : Type 0 where
   pub numbers : List ℕ
   pub woven : HasWoven p deal w numbers

@@ -23,7 +23,7 @@ pub record HasWoven (p : Params) (deal : List ℕ) (w : Weaving) (numbers : List
   pub coded : HasCoded p w.end numbers
   pub dealt : w.deal ≡ deal
 
--- whatever numbers it had taken, it has taken these behind them
+-- whatever numbers it had taken, it has taken these after them
 abbrev pub WeavesAll : Weaving → Weaving → List ℕ → Type 0
 WeavesAll old new list = (p : Params) (deal numbers : List ℕ) → HasWoven p deal old numbers → HasWoven p deal new (numbers ++ list)
 

@@ -68,7 +68,7 @@ fn greatest_of(numbers: &[u16]) -> u16
 }
 
 /// Lemma, by joining the worker: a number greater than any of a feed is never passed on.
-// It stands apart so that the way of all other numbers has no room for a worker to make.
+// It is a function of its own, so that the usual path sets up no stack for a worker.
 #[inline(never)]
 fn no_such_number<R: Threads, F: Feed, G: Gate>(
     rt: &R,

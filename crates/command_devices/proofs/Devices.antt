@@ -36,7 +36,7 @@ stall_rises taken length old new none some (inr (inr h, e)) = absurd (omega (ari
 pub rest_is : (i : ℕ) (bytes : List ℕ) → take (length bytes - i) (drop i bytes) ≡ drop i bytes
 rest_is i bytes = take_all (length bytes - i) (drop i bytes) (omega (arith, length-drop i bytes))
 
--- what stands behind the first bytes after a write there
+-- what follows the first bytes after a write there
 pub part_written : (had k n : ℕ) (bytes piece : List ℕ) → had ≤ length bytes → n ≤ length piece
     → drop had (take (had + n) (put_mid had k bytes piece)) ≡ take n piece
 part_written had k n bytes piece h le =
@@ -46,7 +46,7 @@ part_written had k n bytes piece h le =
     (take-append-add (take had bytes) (piece ++ post_of had k bytes) n) in
     rw (cut, take-append-le n piece (post_of had k bytes) le) (drop_at (take had bytes) (take n piece) had front)
 
--- the bytes read so far, and those that came behind them
+-- the bytes read so far, and those that came after them
 pub read_more : (had n : ℕ) (old new : List ℕ) → had ≤ length new → take had new ≡ take had old
     → take (had + n) new ≡ take had old ++ drop had (take (had + n) new)
 read_more had n old new h kept =
@@ -55,7 +55,7 @@ read_more had n old new h kept =
     rw (take-add had n new) (take_at (take had new) (take n (drop had new)) had (omega (arith, length-take had new))) ∙ kept in
     split ∙ ap (λ (x : List ℕ). x ++ drop had (take (had + n) new)) front
 
--- what more was put behind bytes changes none of their first
+-- what more was put after bytes changes none of their first
 pub front_kept : (had : ℕ) (old new : List ℕ) → had ≤ length old → take (length old) new ≡ old → take had new ≡ take had old
 front_kept had old new h kept = sym (take-take had (length old) new h) ∙ ap (λ (x : List ℕ). take had x) kept
 

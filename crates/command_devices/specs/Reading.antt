@@ -13,6 +13,6 @@ abbrev pub IsReadRefusal : Option (List ℕ) → ℕ → ℕ → Fault → Type 
 IsReadRefusal left failures failures_now fault =
     ((fault ≡ WantOfMemory) × (failures_now ≡ failures)) ⊎ ((fault ≡ Read) × (Rose failures failures_now ⊎ IsLonger (2 ^ 40) left))
 
--- a failure of the source is told as `Read`: behind any other refusal they are as many as before
+-- a failure of the source is told as `Read`: after any other refusal they are as many as before
 abbrev pub ToldAsRead : ℕ → ℕ → Fault → Type 0
 ToldAsRead failures failures_now fault = (fault ≡ Read) ⊎ (failures_now ≡ failures)

@@ -13,6 +13,6 @@ IsCutShort old new failures failures_after stalls stalls_after bytes fault =
 abbrev pub IsWrite : Fault → Type 0
 IsWrite fault = (n : ℕ) × (fault ≡ Write n)
 
--- a failure or a stall of the sink is told as `Write`: behind any other refusal they are as many as before
+-- a failure or a stall of the sink is told as `Write`: after any other refusal they are as many as before
 abbrev pub ToldAsWrite : ℕ → ℕ → ℕ → ℕ → Fault → Type 0
 ToldAsWrite failures failures_now stalls stalls_now fault = IsWrite fault ⊎ ((failures_now ≡ failures) × (stalls_now ≡ stalls))

@@ -54,13 +54,13 @@ pub fn read_up_to<S: Source>(alloc: Global, source: &mut S, limit: u64) -> Resul
     ensures told { IfErr result (ToldAsRead (S.failures source.old) (S.failures source.new)) }
 {
     let mut bytes = Vec::new(alloc);
-    // The bytes behind the first `had` are zeros, into which the next piece is read.
+    // The bytes after the first `had` are zeros, into which the next piece is read.
     let mut had = 0;
     while (had as u64) < limit {
         if had == bytes.len() {
             grow(&mut bytes, limit)?;
         }
-        let Ok(n) = read_behind(source, &mut bytes, had) else {
+        let Ok(n) = read_after(source, &mut bytes, had) else {
             return Err(Fault::Read);
         };
         if n == 0 {
@@ -89,7 +89,7 @@ fn grow(bytes: &mut Vec<u8>, limit: u64) -> Result<(), Fault>
 }
 
 /// Reads into the bytes after the first `had`.
-fn read_behind<S: Source>(source: &mut S, bytes: &mut [u8], had: usize) -> Result<usize, Failed>
+fn read_after<S: Source>(source: &mut S, bytes: &mut [u8], had: usize) -> Result<usize, Failed>
     requires { had ≤ length bytes.old }
     ensures within { IfOk result (λ n. had + n ≤ length bytes.old) }
     ensures given { IfOk result (λ n. Gave (S.left source.old) (S.left source.new) (drop had (take (had + n) bytes.new))) }

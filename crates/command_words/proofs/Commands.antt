@@ -38,7 +38,7 @@ pub compress_is_free : is_simple_and_free compress_app ≡ true
 unfolding clap_on_literals compress_app image_rules sizes options flags layout_rules
 compress_is_free = refl
 
--- with the rules of xs from place i on, and these behind them, the command has all that it is to have
+-- with the rules of xs from place i on, and these after them, the command has all that it is to have
 pub record Leads {X : Type 0} (rule : X → Rule) (xs : List X) (i : ℕ) (behind : List Rule) (c : Command) (all : App) : Type 0 where
   pub leads : with_rules (app_of c) (map rule (drop i xs) ++ behind) ≡ all
 
@@ -52,7 +52,7 @@ next {rule = rule} {xs = xs} {i = i} d {behind = behind} {old = old} {new = new}
     ap (λ ys. with_rules (app_of old) (map rule ys ++ behind)) (sym (drop-cons xs i d lt)) ∙ before.leads in
     record { leads = rw (add-one, added) first }
 
--- behind the last of xs come the others
+-- after the last of xs come the others
 pub over : {X : Type 0} {rule : X → Rule} {xs : List X} {i : ℕ} {behind : List Rule} {c : Command} {all : App}
     → Leads rule xs i behind c all → length xs ≤ i → with_rules (app_of c) behind ≡ all
 over {rule = rule} {xs = xs} {i = i} {behind = behind} {c = c} before past =

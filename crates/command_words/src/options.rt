@@ -83,7 +83,7 @@ macro_rules! options {
             // predictors that run in threads of their own, beside the one that codes; with 0 all is done on one thread.
             // Band z goes to predictor z mod their number
             ("predictors", "0"),
-            // how many residuals a predictor may be ahead of the coding; used with predictors alone, but judged in any
+            // how many residuals a predictor may be ahead of the coding; used only with predictors, but checked in any
             // case
             ("slots", "1024"),
         ]

@@ -20,7 +20,7 @@ by_key : (o : Order) (p q : Place) → p.z ≡ q.z → IsBefore (place_key o p) 
 by_key Bsq p q e before = grind arith
 by_key (Bi depth) p q e before = grind (arith, ap (λ n. n / depth) e)
 
--- of two places of one band the one that stands behind in the order stands behind in the band
+-- of two places of one band the one that comes later in the order comes later in the band
 pub time_increases : (s : Sizes) (o : Order) (p q : Place) → IsOrder s o → IsPlaceOf s p → IsPlaceOf s q → p.z ≡ q.z → place_index s o p < place_index s o q
     → time_of s p < time_of s q
 time_increases s o p q lawful a b e lt =

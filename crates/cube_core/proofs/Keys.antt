@@ -42,7 +42,7 @@ before_sequential s p q hp hq lt =
 abbrev in_line : Sizes → ℕ → Place → ℕ
 in_line s depth p = p.z / depth * depth * s.columns + (p.x * min depth (s.bands - p.z / depth * depth) + (p.z - p.z / depth * depth))
 
--- a place's group and what is behind it stay within the line
+-- a place's group and what is after it stay within the line
 group_end : (s : Sizes) (depth : ℕ) (p : Place) → 1 ≤ depth → IsPlaceOf s p
     → in_line s depth p < (p.z / depth * depth + min depth (s.bands - p.z / depth * depth)) * s.columns
 group_end s depth p h hp =

@@ -38,7 +38,7 @@ get_or-pieces f a (suc n) w (suc i) j d same lt in_piece =
     let rest = get_or-pieces f (suc a) n w i j d (λ k low high. same k (omega arith) (omega arith)) (omega arith) (rw e at in_piece) in
     rw (z, e) (get_or-append-add (f a) (flat_map f (from (suc a) n)) (i * w + j) d ∙ rest)
 
--- an item behind so many
+-- an item after so many
 pub get_drop : {A : Type 0} (xs : List A) (n i : ℕ) → slice_get (drop n xs) i ≡ slice_get xs (n + i)
 get_drop [] zero i = refl
 get_drop [] (suc n) i = refl
@@ -54,7 +54,7 @@ take_next {A = A} xs i x e =
     let lt : i < length xs = slice_get_within xs i x e in
     (lt, take_more xs i x lt ∙ ap (λ (y : A). take i xs ++ y ∷ []) (get_or_from_slice_get xs i x x e))
 
--- the first item, and those behind it
+-- the first item, and those after it
 pub first_of : {A : Type 0} (xs : List A) (x : A) → slice_get xs 0 ≡ Some x → (rest : List A) × (xs ≡ x ∷ rest)
 first_of [] x e = absurd (cc)
 first_of (y ∷ rest) x e = (rest, cc)
@@ -63,7 +63,7 @@ pub none_first : {A : Type 0} (xs : List A) → slice_get xs 0 ≡ None → xs �
 none_first [] e = refl
 none_first (x ∷ rest) e = absurd (cc)
 
--- an item of a list in which one was set, or behind which one was put
+-- an item of a list in which one was set, or after which one was put
 pub get_set : {A : Type 0} (xs : List A) (i k : ℕ) (x y : A) → slice_get (set xs i x) k ≡ Some y → ((k ≡ i) × (y ≡ x)) ⊎ ((k ≢ i) × (slice_get xs k ≡ Some y))
 get_set [] i k x y e = absurd (cc)
 get_set (z ∷ zs) zero zero x y e = inl (refl, cc)

@@ -172,7 +172,7 @@ sequential_place_is s i a b lt =
       index = rw again (div-add-mod' i s.columns);
     }
 
--- what is left of a line behind its whole groups fits the group that it is in
+-- what is left of a line after its whole groups fits the group that it is in
 in_group : (bands columns depth r first q size : ℕ) → r < bands * columns → q < depth * columns → first * columns + q ≡ r → first < bands
     → size ≡ min depth (bands - first) → q < columns * size
 in_group bands columns depth r first q size a b e f d = elim (cases_lt (bands - first) depth) [ inl h ↦ short h | inr h ↦ whole h ]

@@ -34,7 +34,7 @@ place_of s (Bi depth) i lawful lt =
 pub same_place : (s : Sizes) (o : Order) (p q : Place) → IsOrder s o → IsPlaceOf s p → IsPlaceOf s q → place_index s o p ≡ place_index s o q → p ≡ q
 same_place s o p q lawful a b e = sym (place_at_index s o p p lawful a) ∙ ap (λ (i : ℕ). get_or (places s o) i p) e ∙ place_at_index s o q p lawful b
 
--- the first of the places behind i of them stands at i
+-- the first of the places after i of them stands at i
 pub next_stands : (s : Sizes) (o : Order) (i : ℕ) (q : Place) (rest : List Place) → IsOrder s o → drop i (places s o) ≡ q ∷ rest
     → (i < sample_count s) × StandsAt s o q i × (rest ≡ drop (i + 1) (places s o))
 next_stands s o i q rest lawful e =

@@ -187,14 +187,14 @@ first_left s o p left lawful place e more =
     let within : place_index s o p < length (places s o) = omega (arith, length-places s o lawful) in
     rw (here, next, drop-cons (places s o) (place_index s o p) p within, place_at_index s o p p lawful place) refl
 
--- behind so many of what is left, so many fewer are left
+-- after so many of what is left, so many fewer are left
 pub left_behind : (s : Sizes) (o : Order) (left n : ℕ) → left ≤ sample_count s → n ≤ left → places_left s o (left - n) ≡ drop n (places_left s o left)
 unfolding places_left
 left_behind s o left n few h =
     let e : sample_count s - (left - n) ≡ sample_count s - left + n = omega arith in
     rw e (sym (drop-drop n (sample_count s - left) (places s o)))
 
--- a walk goes on to a spot so many places on, and to the one behind it
+-- a walk goes on to a spot so many places on, and to the one after it
 pub walk_on : (s : Sizes) (o : Order) (p q after : Spot) (left n : ℕ) → IsWalk s o p left → n < left → StepsOn s o n p q
     → (0 < left - (n + 1) → StepsOn s o 1 q after) → IsWalk s o after (left - (n + 1))
 walk_on s o p q after left n walk more on next = record {
@@ -237,7 +237,7 @@ first_index s (Bi depth) =
     let none : 0 / depth * depth ≡ 0 = rw (zero-div depth) (omega arith) in
     rw none (omega arith)
 
--- the places of a column come one behind another
+-- the places of a column come one after another
 pub column_left : (s : Sizes) (depth : ℕ) (p : Spot) (left i : ℕ) → IsWalk s (Bi depth) p left → 0 < left → p.place.z + i < p.end
     → slice_get (places_left s (Bi depth) left) i ≡ Some (bands_on p i).place
 column_left s depth p left i walk more inside =

@@ -7,7 +7,7 @@ use Rattle.cube_core.specs.declared.cursor.Spot.{Spot}
 use Rattle.cube_core.specs.Shape.{Sizes, sample_count}
 use Rattle.cube_core.specs.Order.{IsOrder, IsPlaceOf, place_index, places}
 
--- a place, and under interleaving the first band of its group and the band behind its last
+-- a place, and under interleaving the first band of its group and the band after its last
 abbrev pub IsSpot : Sizes → Order → Spot → Type 0
 IsSpot s Bsq p = IsPlaceOf s p.place
 IsSpot s (Bi depth) p = IsPlaceOf s p.place × (p.first ≡ p.place.z / depth * depth) × (p.end ≡ min (p.first + depth) s.bands)

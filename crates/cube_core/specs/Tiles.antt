@@ -11,7 +11,7 @@ abbrev pub most_bands : Order → ℕ
 most_bands Bsq = 1
 most_bands (Bi depth) = depth
 
--- the place i columns behind another, b bands above it
+-- the place i columns after another, b bands above it
 abbrev pub place_in : Place → ℕ → ℕ → Place
 place_in q i b = record { z = q.z + b; y = q.y; x = q.x + i }
 

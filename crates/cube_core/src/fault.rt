@@ -114,7 +114,7 @@ pub enum Fault {
     TableElsewhere,
     /// The bits end too early; `bit` is the number of bits in the file.
     Truncated { bit: u64 },
-    /// Sample-adaptive: a second spelling, or a value above 2^D - 1; `place` is the index in encoding order.
+    /// Sample-adaptive: a needless escape, or a value above 2^D - 1; `place` is the index in encoding order.
     BadCode { place: u64 },
     /// Block-adaptive: the block holds a value above 2^D - 1.
     BadOption { block: u64 },

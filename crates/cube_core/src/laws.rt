@@ -2,7 +2,7 @@
 
 ghost use Rattle.cube_core.specs.Laws.{OrderIsByKey, ItemOfIndex, IndexOfItem, WideEnough};
 
-/// The encoding order holds each place once, by strictly increasing keys.
+/// The encoding order has each place once, by strictly increasing keys.
 pub fn order_is_by_key()
     ensures { OrderIsByKey }
 {}
@@ -17,7 +17,7 @@ pub fn index_of_item()
     ensures { IndexOfItem }
 {}
 
-/// Two bytes spell each sample, and one byte each of at most eight bits.
+/// Two bytes hold any sample, and one byte holds any of at most eight bits.
 pub fn wide_enough()
     ensures { WideEnough }
 {}

@@ -13,7 +13,7 @@ use Rattle.header_bits.proofs.Tests.{then_ok, ◌then_fine◌, refuse_ok, refuse
 use Rattle.cube_predictors.specs.Weave.{IsDeal}
 use Rattle.cube_predictors.specs.Plans.{told_band, owner_fault, length_fault, plan_fault, PlanFaultIsExact}
 
--- one band behind another
+-- one band after another
 pub owner_there : (predictors z : ℕ) (deal : List ℕ) → z < length deal → get_or deal z 0 < predictors
     → owner_fault predictors z (drop z deal) ≡ owner_fault predictors (z + 1) (drop (z + 1) deal)
 unfolding owner_fault

@@ -1,4 +1,4 @@
--- Pieces of a row, one behind another.
+-- Pieces of a row, one after another.
 use Rattle.std.proofs.Common.{◌≡◌, ◌+◌, ◌*◌, ◌<◌, ◌≤◌, ℕ, List, [], ◌∷◌, ◌++◌, length, map, take, drop, get_or, set, refl, sym, ap, ap₂, ◌∙◌}
 use Rattle.std.proofs.Common.{get_or-take, get_or-drop, get_or-set_other, append-nil, length-drop, length-set, arith}
 use Rattle.std.specs.List.{flat_map}
@@ -133,7 +133,7 @@ held_alone bands b n numbers one there is long =
 
 -- ---- several columns at once
 
--- the residuals of one more place, behind those of the places before it
+-- the residuals of one more place, after those of the places before it
 pub places_more : (bands : List Learner) (first k n many count : ℕ) (room numbers : List ℕ) → length numbers ≡ many → length room ≡ count * many → k < count
     → numbers ≡ held_at bands (first + k) → take (k * many) room ≡ flat_map (λ i. held_at bands i) (from first k)
     → take ((k + 1) * many) (put_mid (k * many) n room numbers) ≡ flat_map (λ i. held_at bands i) (from first (k + 1))

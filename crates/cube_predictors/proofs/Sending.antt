@@ -16,7 +16,7 @@ use Rattle.cube_predictors.specs.Own.{row_of}
 use Rattle.cube_predictors.specs.Sends.{IsAt, AreAt, bands_of}
 use Rattle.cube_predictors.specs.Takings.{AreTakings}
 
--- ---- pieces, one behind another
+-- ---- pieces, one after another
 
 pub from_split : (a m n : ℕ) → from a (m + n) ≡ from a m ++ from (a + m) n
 from_split a zero n = ap₂ from (omega arith) (omega arith)

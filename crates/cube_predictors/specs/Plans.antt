@@ -42,7 +42,7 @@ owner_fault predictors z (q ∷ deal) = refuse_if (not (nat_lt q predictors)) (B
 abbrev pub length_fault : ℕ → List ℕ → Test
 length_fault bands deal = refuse_if (not (length deal == bands)) (BadDeal (min (length deal) bands))
 
--- the number of predictors is judged first, then that of slots, then each owner, then how many are dealt
+-- the number of predictors is checked first, then that of slots, then each owner, then how many are dealt
 unfoldable pub plan_fault : ℕ → ℕ → ℕ → List ℕ → Test
 plan_fault predictors slots bands deal = in_range_or field.Predictors 1 64 predictors >> in_range_or field.Slots 1 65536 slots >> owner_fault predictors 0
     deal >> length_fault bands deal

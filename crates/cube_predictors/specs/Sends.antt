@@ -30,7 +30,7 @@ AreAt p c t bands = AllByRecursion (λ b. IsAt p c t b) bands
 abbrev pub bands_of : List Learner → List ℕ
 bands_of bands = map (λ b. b.band) bands
 
--- a sender has taken all of a list behind what it had, or it was stopped inside the list
+-- a sender has taken all of a list after what it had, or it was stopped inside the list
 pub record Sends {G : Type 0} (old new : RunSending G) (all : Bool) (list : List ℕ) : Type 0 where
   pub lane : new.lane ≡ old.lane
   pub predictor : new.predictor ≡ old.predictor

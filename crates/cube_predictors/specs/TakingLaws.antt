@@ -1,4 +1,4 @@
--- Senders take lists one behind another.
+-- Senders take lists one after another.
 use Rattle.std.proofs.Common.{◌≡◌, ◌+◌, ℕ, Bool, true, false, List, [], ◌++◌, length, refl, sym, ap, ◌∙◌, append-nil, append_assoc}
 use Rattle.std.proofs.Common.{length-append, arith}
 use Rattle.std.proofs.lemmas.List.{nil_from_length}
@@ -32,7 +32,7 @@ module _ {G : Type 0} where
     stopped = b.stopped;
   }
 
-  -- one that was stopped doesn't care what comes behind
+  -- one that was stopped doesn't care what comes after
   sends_cut : (old new : RunSending G) (xs ys : List ℕ) → Sends old new false xs → Sends old new false (xs ++ ys)
   sends_cut old new xs ys a = record {
     lane = a.lane;

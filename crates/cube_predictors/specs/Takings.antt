@@ -2,7 +2,7 @@
 use Rattle.std.specs.Prelude.{ℕ, ◌+◌, ◌^◌, ◌<◌, Bool, true, false, List, [], ◌++◌, length, IsTrue}
 use Rattle.lane_workers.specs.Runs.{RunSending}
 
--- lists may be taken one behind another
+-- lists may be taken one after another
 pub record AreTakings {S : Type 0} (may : S → List ℕ → Type 0) (takes : S → S → Bool → List ℕ → Type 0) : Type 0 where
   pub less : (s : S) (xs ys : List ℕ) → may s (xs ++ ys) → may s xs
   pub more : (old new : S) (xs ys : List ℕ) → takes old new true xs → may old (xs ++ ys) → may new ys

@@ -13,7 +13,7 @@ use std::alloc::Global;
 use std::marker::Model;
 
 /// The greatest band number that is reported.
-const GREATEST_TOLD: usize = 4_294_967_295;
+const GREATEST_REPORTED: usize = 4_294_967_295;
 
 /// The predictor of each band of an image, and how many residuals a predictor may be ahead of the coding end.
 #[derive(Drop)]
@@ -147,7 +147,7 @@ fn test_owners(predictors: u32, deal: &[u8]) -> Result<(), Fault>
 {
     for (z, owner) in deal.iter().enumerate() {
         if u32::from(*owner) >= predictors {
-            let band = z.min(GREATEST_TOLD) as u32;
+            let band = z.min(GREATEST_REPORTED) as u32;
             return Err(Fault::BadDeal { band });
         }
     }

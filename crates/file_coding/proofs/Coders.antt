@@ -41,7 +41,7 @@ pub places_whole : (p : Params) (numbers : List ℕ) → IsOrder p.shape p.order
     → places_of p numbers ≡ places p.shape p.order
 places_whole p numbers lawful e = take_all (length numbers) (places p.shape p.order) (omega (arith, e, length-places p.shape p.order lawful))
 
--- as many places stand behind those of the numbers
+-- as many places come after those of the numbers
 pub run_count : (p : Params) (numbers : List ℕ) (count : ℕ) → length numbers + count ≤ length (places p.shape p.order)
     → count ≡ length (places_behind p numbers count)
 run_count p numbers count fits =

@@ -29,7 +29,7 @@ place_left p e numbers i q h item =
     (order_is_by_key p.shape p.order h.order).only (length numbers + i) q
     (sym (get_drop (places p.shape p.order) (length numbers) i) ∙ ap (λ qs. slice_get qs i) (sym h.left) ∙ item)
 
--- the first is the one behind those of the numbers
+-- the first is the one after those of the numbers
 pub item_next : (p : Params) (e : Ending) (numbers : List ℕ) (q : Place) → HasCoded p e numbers → slice_get e.left 0 ≡ Some q
     → slice_get (places p.shape p.order) (length numbers) ≡ Some q
 item_next p e numbers q h next = sym (get-drop (places p.shape p.order) (length numbers)) ∙ ap (λ qs. slice_get qs 0) (sym h.left) ∙ next
@@ -40,7 +40,7 @@ pub time_next : (p : Params) (e : Ending) (numbers : List ℕ) (q : Place) (t : 
 time_next p e numbers q t h next time =
     time ∙ ap (λ n. q.y * n + q.x) h.columns ∙ sym (time_of_place p numbers q h.order (item_next p e numbers q h next))
 
--- as many are to come as there are samples behind the numbers
+-- as many are to come as there are samples after the numbers
 pub length-left : (p : Params) (e : Ending) (numbers : List ℕ) → HasCoded p e numbers → length e.left ≡ sample_count p.shape - length numbers
 length-left p e numbers h = rw (h.left, length-drop, length-places p.shape p.order h.order) refl
 

@@ -53,7 +53,7 @@ rows_follow s o lawful along i q e lt =
     let place : IsPlaceOf s next = record { band = there.band; row = there.row; column = lt } in
     item_from_index s o next (suc i) lawful place (step ∙ omega (arith, at)) (omega (arith, at, step, place_index_below s o next lawful place))
 
--- ---- numbers behind others
+-- ---- numbers after others
 
 pub codes_none : (e : Ending) → CodesAll e e []
 codes_none e p numbers h = rw (append-nil numbers) h
@@ -89,7 +89,7 @@ place_waits old e list first may codes lt none =
     comes_next may.params e (may.numbers ++ take first list) (codes may.params may.numbers may.coded)
     (rw (length-append, length-take) (omega (arith, may.more, lt))) none
 
--- the residuals that may be coded are no more than the places behind those that were
+-- the residuals that may be coded are no more than the places after those that were
 pub fits_behind : (old : Ending) (list : List ℕ) → MayCodeAll old list → (p : Params) (numbers : List ℕ) → HasCoded p old numbers
     → length numbers + length list ≤ length (places p.shape p.order)
 fits_behind old list may p numbers h =

@@ -67,7 +67,7 @@ abbrev pub MayPutRun : Encoder → ℕ → ℕ → List ℕ → Type 0
 MayPutRun (Samples v) z t run = (z < length v.bands) × AllByRecursion (λ n. n < 2 ^ v.bits) run × (length run ≤ 2 ^ 16) × (t < 2 ^ 48)
 MayPutRun (Blocks v) z t run = ⊥
 
--- so many places behind those of the numbers
+-- so many places after those of the numbers
 abbrev pub places_behind : Params → List ℕ → ℕ → List Place
 places_behind p numbers count = take count (drop (length numbers) (places p.shape p.order))
 

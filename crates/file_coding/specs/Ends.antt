@@ -19,7 +19,7 @@ pub record Ending : Type 0 where
   pub coder : Encoder
   pub bits : List Bool
 
--- the coding end of parameters has taken the numbers: the places behind them are still to come, and what the coder wrote stands behind the header
+-- the coding end of parameters has taken the numbers: the places after them are still to come, and what the coder wrote comes after the header
 pub record HasCoded (p : Params) (e : Ending) (numbers : List ℕ) : Type 0 where
   pub columns : e.columns ≡ p.shape.columns
   pub word : e.word ≡ p.word
@@ -39,7 +39,7 @@ pub record MayCode (e : Ending) (number : ℕ) : Type 0 where
   pub more : length numbers < sample_count params.shape
   pub range : number < 2 ^ params.kind.bits
 
--- the coding end of some parameters has taken numbers, these are no more than the samples behind them, and in range
+-- the coding end of some parameters has taken numbers, these are no more than the samples after them, and in range
 pub record MayCodeAll (e : Ending) (list : List ℕ) : Type 0 where
   pub params : Params
   pub numbers : List ℕ
@@ -48,7 +48,7 @@ pub record MayCodeAll (e : Ending) (list : List ℕ) : Type 0 where
   pub more : length numbers + length list ≤ sample_count params.shape
   pub range : AllByRecursion (λ n. n < 2 ^ params.kind.bits) list
 
--- whatever numbers it had taken, it has taken these behind them
+-- whatever numbers it had taken, it has taken these after them
 abbrev pub CodesAll : Ending → Ending → List ℕ → Type 0
 CodesAll old new list = (p : Params) (numbers : List ℕ) → HasCoded p old numbers → HasCoded p new (numbers ++ list)
 

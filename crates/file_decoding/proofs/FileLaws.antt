@@ -1,4 +1,4 @@
--- What a body is by either coder, and what stands behind it; a file has no fault, and is a file of one cube alone.
+-- What a body is by either coder, and what comes after it; a file has no fault, and is a file of one cube alone.
 use Rattle.std.specs.List.{AllByRecursion}
 use Rattle.std.proofs.Common.{◌≡◌, ◌≤◌, ◌<◌, ◌^◌, ◌*◌, ℕ, zero, suc, Bool, true, false, leb, List, [], ◌∷◌, ◌++◌, length, replicate, Ok, Err, refl, sym, ap}
 use Rattle.std.proofs.Common.{subst, ◌∙◌, append_assoc, length-append, arith}
@@ -95,7 +95,7 @@ module _ (p : Params) (lawful : IsLawful p) where
       let whole = length-places c.shape p.order (rw cube.shape lawful.order) in
       (length-map (places c.shape p.order) _ ∙ whole ∙ ap sample_count cube.shape, inside c cube, coded)
 
--- ---- what stands behind a body: few bits, and no one among them
+-- ---- what comes after a body: few bits, and no one among them
 
 none_one : (n : ℕ) → some_one (replicate n false) ≡ false
 none_one zero = refl

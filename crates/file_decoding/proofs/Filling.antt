@@ -21,7 +21,7 @@ use Rattle.predict_core.proofs.Walking.{along_beside, along_within}
 use Rattle.file_decoding.specs.declared.tile.Tile.{Tile}
 use Rattle.file_decoding.specs.Tiles.{ComeTo, HasResiduals, IsFilled, start_of}
 
--- of some parameters the samples of the tile's first n bands are found, and these bands are behind the tile
+-- of some parameters the samples of the tile's first n bands are found, and these bands are past the tile
 pub record AreFound (p : Params) (tile : Tile) (c d : Image) (now : List Learner) (deltas : List ℕ) (n : ℕ) : Type 0 where
   pub same : SameBefore p.order c d (start_of p tile)
   pub residuals : HasResiduals p d tile deltas n

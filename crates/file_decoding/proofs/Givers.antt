@@ -48,7 +48,7 @@ pub may_give : (d : Decoder) {zs ts : ℕ → ℕ} {index count : ℕ} → MayAs
 may_give (Samples v) m some = λ i lt. omega (arith, m.given.bands, (within m i lt).1)
 may_give (Blocks v) {count = count} m some = omega (arith, some, m.given.count, m.given.room.room, (within m (count - 1) (omega (arith, some))).0)
 
--- ---- what is given behind other numbers
+-- ---- what is given after other numbers
 
 pub samples_give : {X : Type 0} (numbers_of : X → List ℕ) (r : Result X Fault) (p : Params) (numbers : List ℕ) (bits : List Bool) (unread : Unread)
     (new : Counts) (left : List Bool) → IsSample p.coder → SamplesGive numbers_of r p numbers bits unread new left
@@ -75,7 +75,7 @@ blocks_give numbers_of (Err fault) p numbers bits unread new left coder did =
     let k = block_is p.coder coder in
     rw k.3 (rw (rw k.3 at did) refl)
 
--- more behind them
+-- more after them
 pub gives_behind : (p : Params) (mid new : Decoder) (numbers : List ℕ) (bits unread now left : List Bool) (count : ℕ) (xs ys : List ℕ)
     (r : Result (Unit {0}) Fault) (g : GivesAll p mid numbers bits unread now xs)
     → GivesMore (λ _. ys) r p (numbers ++ xs) (bits ++ g.1) (record { count = count; left = now }) new left

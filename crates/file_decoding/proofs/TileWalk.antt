@@ -1,4 +1,4 @@
--- The walk from tile to tile: what is known where the next one begins, and behind it.
+-- The walk from tile to tile: what is known where the next one begins, and after it.
 use mathlib.Core.List.{map-append}
 use Rattle.std.specs.List.{slice_get, slice_index}
 use Rattle.std.proofs.Common.{◌≡◌, ◌+◌, ◌*◌, ◌/◌, ◌%◌, ◌<◌, ℕ, Bool, List, ◌++◌, length, refl, ap, ◌∙◌, length-append, arith, ap₂, ◌-◌, ◌≤◌, [], take, drop}
@@ -45,7 +45,7 @@ run_bands tile one = fun_ext (λ i. rw one (let none = mod-one i in omega (arith
 pub run_times : (tile : Tile) (t : ℕ) → tile.bands ≡ 1 → time_in tile t ≡ (λ i. t + i)
 run_times tile t one = fun_ext (λ i. rw one (ap (λ (k : ℕ). t + k) (div-one i)))
 
--- a column of a tile, behind those before it
+-- a column of a tile, after those before it
 abbrev pub as_column : (tile : Tile) (t : ℕ) {index count : ℕ} {d : Decoder} (m : MayAskEach d (band_in tile) (time_in tile t) index count) (i size : ℕ)
     (mid : Decoder) (unread now : List Bool) (xs : List ℕ) → i < tile.columns → length xs ≡ i * tile.bands → size ≡ tile.bands
     → count ≡ tile.columns * tile.bands → GivesAll m.params mid m.numbers m.bits unread now xs

@@ -50,7 +50,7 @@ GivesNumber z t index result old unread new left =
     (p : Params) (numbers : List ℕ) (bits : List Bool) → IsLawful p → HasGiven p old numbers bits → IsNext p numbers z t → index ≡ length numbers
     → GivesMore (λ number. number ∷ []) result p numbers bits unread new left
 
--- so many numbers behind the first n, whatever these are, are numbers of such bands, at such places of each
+-- so many numbers after the first n, whatever these are, are numbers of such bands, at such places of each
 abbrev pub AreEach : Params → ℕ → (ℕ → ℕ) → (ℕ → ℕ) → ℕ → Type 0
 AreEach p n zs ts count = (i : ℕ) (numbers : List ℕ) → i < count → length numbers ≡ n + i → IsNext p numbers (zs i) (ts i)
 
@@ -62,7 +62,7 @@ AreNumbers p n z t count = AreEach p n (λ i. z) (λ i. t + i) count
 abbrev pub AreAbove : Params → ℕ → ℕ → ℕ → ℕ → Type 0
 AreAbove p n z t count = AreEach p n (λ i. z + i) (λ i. t) count
 
--- such numbers may be asked for, one behind another: of some parameters the first of them stands at the index
+-- such numbers may be asked for, one after another: of some parameters the first of them stands at the index
 pub record MayAskEach (d : Decoder) (zs ts : ℕ → ℕ) (index count : ℕ) : Type 0 where
   pub params : Params
   pub numbers : List ℕ
@@ -109,7 +109,7 @@ AnswersOr (Err e) p c = e ≡ WantOfMemory
 abbrev pub IsNoFile : List ℕ → Type 0
 IsNoFile bytes = (p : Params) (c : Image) → IsFile bytes p c → ⊥
 
--- why no file was read: the bytes' first fault; or there is no memory for the header's tables, or none behind a head without a fault
+-- why no file was read: the bytes' first fault; or there is no memory for the header's tables, or none after a head without a fault
 abbrev pub IsRefusal : List Bool → Fault → Type 0
 IsRefusal bits e =
     (file_test bits ≡ Err e) ⊎ ((e ≡ WantOfMemory) × (BeginsWithTable bits ⊎ ((head : Params × List Bool) × (head_at bits ≡ Ok head))))

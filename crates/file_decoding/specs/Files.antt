@@ -41,7 +41,7 @@ pub record IsFile (bytes : List ℕ) (p : Params) (c : Image) : Type 0 where
   pub few : fill < 8 * p.word
   pub text : bits_of_bytes bytes ≡ header ++ body ++ replicate fill false
 
--- the bits behind the body that they begin with, or its first fault in bit order; the file has `count` bits
+-- the bits after the body that they begin with, or its first fault in bit order; the file has `count` bits
 abbrev pub behind_by : Coder → ℕ → Params → List Bool → Result (List Bool) Fault
 behind_by (Sample umax gamma_star gamma_zero start) count p bits =
     sample_body_at count (settings p) (places p.shape p.order) bits >>= λ read. Ok read.1
@@ -56,18 +56,18 @@ abbrev pub some_one : List Bool → Bool
 some_one [] = false
 some_one (bit ∷ bits) = bit || some_one bits
 
--- the bits behind a body: fewer than an output word has, and then none of them is one
+-- the bits after a body: fewer than an output word has, and then none of them is one
 abbrev pub fill_test : ℕ → List Bool → Test
 fill_test word bits = refuse_if (nat_le (8 * word) (length bits)) (TooLong (length bits)) >> refuse_if (some_one bits) BadFill
 
--- what stands behind the header: the body, and then the fill
+-- what comes after the header: the body, and then the fill
 unfoldable pub body_test : ℕ → Params → List Bool → Test
 body_test count p bits = behind_body count p bits >>= λ rest. fill_test p.word rest
 
--- a header behind which there are as many bits as the shortest body has: its parameters and these bits, or the first refusal
+-- a header after which there are as many bits as the shortest body has: its parameters and these bits, or the first refusal
 unfoldable pub head_at : Reading Params
 head_at bits = header_at bits >>= λ header. least_test (length bits) header.0 header.1 >> Ok header
 
--- a file is refused for the first fault of its header, for too few bits behind it, and for the first fault of its body and of its fill
+-- a file is refused for the first fault of its header, for too few bits after it, and for the first fault of its body and of its fill
 unfoldable pub file_test : List Bool → Test
 file_test bits = head_at bits >>= λ header. body_test (length bits) header.0 header.1

@@ -97,7 +97,7 @@ fn take_cube(alloc: Global, params: &Params, reader: &mut BitReader) -> Result<C
     Ok(cube)
 }
 
-/// Tests the fill bits behind the body: they are zeros, and fewer than an output word of `word` bytes has.
+/// Tests the fill bits after the body: they are zeros, and fewer than an output word of `word` bytes has.
 #[tactic(auto, using(crate::proofs::FileLaws::ones_fail, crate::proofs::FileLaws::zeros_pass))]
 fn test_fill(word: u32, reader: &BitReader) -> Result<(), Fault>
     requires { InRange 1 8 word }

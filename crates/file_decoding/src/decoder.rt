@@ -41,7 +41,7 @@ impl Decoder {
         }
     }
 
-    /// Returns the next residual of the body, which is number `t` of band `z` and stands at `index` in encoding
+    /// Returns the next residual of the body, which is number `t` of band `z` and is at `index` in encoding
     /// order.
     ///
     /// Fewer were returned than there are samples. Where the bits encode none, it returns the first fault of the body:
@@ -62,7 +62,7 @@ impl Decoder {
         }
     }
 
-    /// Writes the next residuals of the body to `deltas`: numbers `t`, `t + 1`, .. of band `z`. The first stands at `index`
+    /// Writes the next residuals of the body to `deltas`: numbers `t`, `t + 1`, .. of band `z`. The first is at `index`
     /// in encoding order.
     ///
     /// They are of one row, at least one and at most 64. Where the bits encode fewer, it returns the first fault of the
@@ -89,7 +89,7 @@ impl Decoder {
     }
 
     /// Writes the next residuals of the body to `deltas`: number `t` of band `z`, then that of the next band, and so on.
-    /// The first stands at `index` in encoding order.
+    /// The first is at `index` in encoding order.
     ///
     /// They are of one row and column, at least one and at most 65,536. Where the bits encode fewer, it returns the first
     /// fault of the body, as `next` does, and what is in `deltas` is unspecified. It allocates nothing.

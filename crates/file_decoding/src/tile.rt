@@ -75,7 +75,7 @@ impl Tile {
 
     /// Reads the residuals of these places, in encoding order.
     ///
-    /// The first is number `t` of its band, and stands at index `index` in encoding order. Where the bits encode fewer,
+    /// The first is number `t` of its band, and is at `index` in encoding order. Where the bits encode fewer,
     /// it returns the first fault of the body, and what is in `deltas` is unspecified.
     pub(crate) fn read(
         &self,

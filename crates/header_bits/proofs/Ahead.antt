@@ -25,7 +25,7 @@ ahead_length most bits word h =
     ap length (h most (omega arith)) ∙ length-append (bits_of most (word / 2 ^ (64 - most))) (drop most bits) in
     omega (arith, all, length-bits_of most (word / 2 ^ (64 - most)))
 
--- the zeros that lead the word, and the one behind them
+-- the zeros that lead the word, and the one after them
 pub zeros_ahead : (count limit most : ℕ) (bits : List Bool) (word run : ℕ) → word < 2 ^ 64 → most ≤ 64 → IsAhead most bits word → limit ≤ most
     → run ≡ count_leading_zeros 64 word → run < limit
     → zeros_at count limit bits ≡ Ok (run, drop (run + 1) bits)
@@ -44,7 +44,7 @@ limit_ahead count limit most bits word below h le many =
     h limit le ∙ ap (λ (x : List Bool). x ++ drop limit bits) (ap (bits_of limit) (top_is_zero word limit below many) ∙ bits_of_zero limit) in
     ap (zeros_at count limit) front ∙ zeros_full count limit (drop limit bits)
 
--- a number behind the highest bits
+-- a number after the highest bits
 pub number_ahead : (count highest n most : ℕ) (bits : List Bool) (word : ℕ) → IsAhead most bits word → highest + n ≤ most
     → number_at count n (drop highest bits) ≡ Ok (word / 2 ^ (64 - (highest + n)) % 2 ^ n, drop (highest + n) bits)
 number_ahead count highest n most bits word h le =

@@ -26,7 +26,7 @@ use Rattle.header_bits.specs.ImagePart.{image, image_numbers, flag, order_flag, 
 use Rattle.header_bits.specs.PredictorPart.{predictor, start_tests, predictor_numbers, exponent_of, exponent_code}
 use Rattle.header_bits.specs.CoderPart.{coder, coder_by, coder_fields, coder_numbers, size_code}
 use Rattle.header_bits.specs.TableParts.{weights, weights_by, weight_count, constants, constants_by, table_fields, signed_code}
-use Rattle.header_bits.specs.Header.{Said, params_of, start_by, coder_by_part, coder_start, header_of, SpellsHeader, SpellsParts, image_part_of}
+use Rattle.header_bits.specs.Header.{HeaderContents, params_of, start_by, coder_by_part, coder_start, header_of, SpellsHeader, SpellsParts, image_part_of}
 use Rattle.header_bits.specs.Header.{predictor_part_of, coder_part_of, is_block, is_custom, resolution_of, is_each, weight_bits, each_bits, constant_bits}
 use Rattle.header_bits.specs.Lawful.{IsLawful, IsExponent, IsBlockSize, IsWeightStart, IsCountStart, IsCoder}
 use Rattle.header_bits.proofs.Tests.{◌then_fine◌, refuse_fine, not_under}
@@ -67,7 +67,7 @@ image_chosen p h =
       held = image_held p h;
       passed = reserved_zero 57 2 then_fine refuse_fine _ _ (ne_eqb p.kind.bits 1 (λ e. omega (arith, e, h.kind)))
           then_fine refuse_fine _ _ (order_passes p.shape p.order h.order) then_fine reserved_zero 80 2 then_fine reserved_zero 86 10;
-      said = rw (flag_back p.kind.signed, order_back p.order, flag_back i.block) refl;
+      contents = rw (flag_back p.kind.signed, order_back p.order, flag_back i.block) refl;
       text = refl;
     }
 
@@ -106,7 +106,7 @@ predictor_chosen p h =
           then_fine refuse_fine _ _ (le-ltb (exponent_code p.vmax) (exponent_code p.vmin) (exponent_codes p.vmin p.vmax h.vmin h.vmax h.exponents))
           then_fine reserved_zero 128 1 then_fine start_passes p p.start 0 p.previous (flag p.reduced) 0 (flag p.column) 0 p.register p.interval_log
           (exponent_code p.vmin) (exponent_code p.vmax) 0 h.start;
-      said = rw (flag_back p.reduced, flag_back p.column, exponent_back p.vmin h.vmin, exponent_back p.vmax h.vmax, flag_back d.custom) refl;
+      contents = rw (flag_back p.reduced, flag_back p.column, exponent_back p.vmin h.vmin, exponent_back p.vmax h.vmax, flag_back d.custom) refl;
       text = refl;
     }
 
@@ -126,7 +126,7 @@ coder_by_chosen at p i (Sample umax gamma_star gamma_zero (Constant k)) e h held
   held = held;
   passed = refuse_fine _ _ (le-ltb umax 8 h.0.0) then_fine refuse_fine _ _ (le-ltb 9 gamma_star h.1.1)
       then_fine refuse_fine _ _ (le-ltb gamma_star (gamma_zero + 1) h.3) then_fine refuse_fine _ _ (le-ltb (i.kind.bits - 2) k (rw e h.4)) then_fine refl;
-  said = refl;
+  contents = refl;
   text = refl;
 }
 coder_by_chosen at p i (Sample umax gamma_star gamma_zero (Each values)) e h held = record {
@@ -134,21 +134,21 @@ coder_by_chosen at p i (Sample umax gamma_star gamma_zero (Each values)) e h hel
   held = held;
   passed = refuse_fine _ _ (le-ltb umax 8 h.0.0) then_fine refuse_fine _ _ (le-ltb 9 gamma_star h.1.1)
       then_fine refuse_fine _ _ (le-ltb gamma_star (gamma_zero + 1) h.3) then_fine refl then_fine refl;
-  said = refl;
+  contents = refl;
   text = refl;
 }
 coder_by_chosen at p i (Block size true reference) e h held = record {
   numbers = 0 ∷ size_code size ∷ 1 ∷ reference ∷ [];
   held = held;
   passed = reserved_zero at 1 then_fine refuse_fine _ _ (le-ltb 4 i.kind.bits (rw e (h.1 refl)));
-  said = rw (size_back size h.0) refl;
+  contents = rw (size_back size h.0) refl;
   text = refl;
 }
 coder_by_chosen at p i (Block size false reference) e h held = record {
   numbers = 0 ∷ size_code size ∷ 0 ∷ reference ∷ [];
   held = held;
   passed = reserved_zero at 1 then_fine refl;
-  said = rw (size_back size h.0) refl;
+  contents = rw (size_back size h.0) refl;
   text = refl;
 }
 
@@ -166,7 +166,7 @@ weights_of (Table q values) = values
 weights_chosen : (p : Params) (s : WeightStart) → IsWeightStart p s
     → SpellsPart (weights_by (is_custom s) (weight_count p.previous p.reduced p.shape.bands) (resolution_of s)) (weights_of s) (weight_bits s)
 unfolding weights_of spelled
-weights_chosen p Usual h = record { numbers = []; held = tt; passed = refl; said = refl; text = refl }
+weights_chosen p Usual h = record { numbers = []; held = tt; passed = refl; contents = refl; text = refl }
 weights_chosen p (Table q values) h =
     subst (λ (n : ℕ). SpellsPart (weights_by true n q) values (spelled (table_fields (length values) q) (map (signed_code q) values ++ 0 ∷ []))) h.1 spelt
   where
@@ -185,7 +185,7 @@ weights_chosen p (Table q values) h =
       held = subst (λ (n : ℕ). AreValues (table_fields n q) (map (signed_code q) values ++ 0 ∷ [])) many (table_held q (map (signed_code q) values) small);
       passed = (let fill : get_or (map (signed_code q) values ++ 0 ∷ []) (length values) 0 ≡ 0 = rw (← many) (table_fill (map (signed_code q) values)) in
           rw fill (reserved_zero _ _));
-      said = (let front : take (length values) (map (signed_code q) values ++ 0 ∷ []) ≡ map (signed_code q) values =
+      contents = (let front : take (length values) (map (signed_code q) values ++ 0 ∷ []) ≡ map (signed_code q) values =
           rw (← many) (table_front (map (signed_code q) values)) in rw front (codes_back q values (omega (arith, h.0.0)) h.2));
       text = refl;
     }
@@ -208,7 +208,7 @@ entries_small most limit (v ∷ vs) lt h = (omega (arith, h.0), entries_small mo
 each_chosen : (at : ℕ) (p : Params) (i : ImagePart) (s : CountStart) → i.kind ≡ p.kind → i.shape ≡ p.shape → p.kind.bits ≤ 16 → IsCountStart p s
     → SpellsPart (constants_by (is_each s) at i) (each_of s) (each_bits s)
 unfolding each_of spelled
-each_chosen at p i (Constant k) e f deep h = record { numbers = []; held = tt; passed = refl; said = refl; text = refl }
+each_chosen at p i (Constant k) e f deep h = record { numbers = []; held = tt; passed = refl; contents = refl; text = refl }
 each_chosen at p i (Each values) e f deep h =
     let bands : length values ≡ i.shape.bands = h.0 ∙ ap (λ (s : Sizes). s.bands) (sym f) in
     let most : AllByRecursion (λ v. v ≤ i.kind.bits - 2) values = rw e h.1 in
@@ -219,7 +219,7 @@ each_chosen at p i (Each values) e f deep h =
       numbers = values ++ 0 ∷ [];
       held = subst (λ (n : ℕ). AreValues (table_fields n 4) (values ++ 0 ∷ [])) bands (table_held 4 values small);
       passed = rw (front, fill) (refuse_fine _ _ (above_none (i.kind.bits - 2) values most) then_fine reserved_zero _ _);
-      said = front;
+      contents = front;
       text = ap (λ (n : ℕ). spelled (table_fields n 4) (values ++ 0 ∷ [])) bands;
     }
 
@@ -227,7 +227,7 @@ constants_chosen : (at : ℕ) (p : Params) (i : ImagePart) (c : Coder) → i.kin
     → SpellsPart (constants at i (coder_part_of c)) (entries_of c) (constant_bits c)
 unfolding constants entries_of spelled
 constants_chosen at p i (Sample umax gamma_star gamma_zero start) e f deep h = each_chosen at p i start e f deep h.4
-constants_chosen at p i (Block size restricted reference) e f deep h = record { numbers = []; held = tt; passed = refl; said = refl; text = refl }
+constants_chosen at p i (Block size restricted reference) e f deep h = record { numbers = []; held = tt; passed = refl; contents = refl; text = refl }
 
 -- ---- the header
 
@@ -243,16 +243,16 @@ coder_back (Sample umax gamma_star gamma_zero (Each values)) = refl
 coder_back (Block size restricted reference) = refl
 
 -- what the parts of a header say
-all_said : Params → Said
-all_said p = ((((image_part_of p, predictor_part_of p), weights_of p.start), coder_part_of p.coder), entries_of p.coder)
+all_contents : Params → HeaderContents
+all_contents p = ((((image_part_of p, predictor_part_of p), weights_of p.start), coder_part_of p.coder), entries_of p.coder)
 
-params_back : (p : Params) → params_of (all_said p) ≡ p
-unfolding all_said
+params_back : (p : Params) → params_of (all_contents p) ≡ p
+unfolding all_contents
 params_back p = rw (start_back p.start, coder_back p.coder) refl
 
 parts_chosen : (p : Params) → IsLawful p
-    → SpellsParts (all_said p) (image_bits p ++ predictor_bits p ++ weight_bits p.start ++ coder_bits p ++ constant_bits p.coder)
-unfolding all_said weights
+    → SpellsParts (all_contents p) (image_bits p ++ predictor_bits p ++ weight_bits p.start ++ coder_bits p ++ constant_bits p.coder)
+unfolding all_contents weights
 parts_chosen p h =
     let i : ImagePart = image_part_of p in
     let d : PredictorPart = predictor_part_of p in
@@ -278,4 +278,4 @@ parts_chosen p h =
 
 pub chosen_is_spelt : (p : Params) → IsLawful p → SpellsHeader p (header_of p)
 unfolding header_of
-chosen_is_spelt p h = record { from = all_said p; same = params_back p; spells = parts_chosen p h }
+chosen_is_spelt p h = record { from = all_contents p; same = params_back p; spells = parts_chosen p h }

@@ -1,4 +1,4 @@
--- The entries of a table, judged one after another.
+-- The entries of a table, checked one after another.
 use Rattle.std.proofs.Common.{◌≡◌, ℕ, ◌+◌, ◌-◌, ◌^◌, ◌<◌, ◌≤◌, Bool, true, false, not, ◌&&◌, int_le, List, [], ◌∷◌, length, drop, get_or, ℤ, pos, neg_ℤ, ◌-ℤ◌}
 use Rattle.std.proofs.Common.{Err, refl, sym, ap, ◌∙◌, arith}
 use Rattle.std.proofs.lemmas.Int.{ints}
@@ -60,7 +60,7 @@ entries_none_left bits i vs le = ap (entries_fault bits) (drop_all i vs le)
 minus : (bound : ℤ) (n : ℕ) → bound ≡ pos n → pos 0 -ℤ bound ≡ neg_ℤ (pos n)
 minus bound n e = omega (arith, ints, e)
 
--- a weight that is judged by both bounds
+-- a weight that is checked by both bounds
 judged : (bits : ℕ) (weight value bound : ℤ) (within : Bool) (r : Test) → bound ≡ pos (2 ^ (bits - 1)) → value ≡ weight
     → within ≡ (int_le (pos 0 -ℤ bound) weight && int_le weight (bound -ℤ pos 1)) → r ≡ refuse_if (not within) (FieldRange field.WeightEntry value)
     → r ≡ weight_fault bits weight

@@ -22,18 +22,18 @@ part_exact {X} part = record { again = again; found = found }
         let long : ltb (length (spelled part.fields v ++ rest)) (total part.fields) ≡ false =
         le-ltb _ _ (omega (arith, size, length-append (spelled part.fields v) rest)) in
         ap (λ (b : List Bool). part_at part (b ++ rest)) s.text
-        ∙ rw (long, values_again part.fields v rest s.held, s.passed, s.said, drop_at (spelled part.fields v) rest (total part.fields) size) refl
+        ∙ rw (long, values_again part.fields v rest s.held, s.passed, s.contents, drop_at (spelled part.fields v) rest (total part.fields) size) refl
 
     found : (x : X) (bits rest : List Bool) → part_at part bits ≡ Ok (x, rest) → (h : List Bool) × SpellsPart part x h × (bits ≡ h ++ rest)
     found x bits rest e =
         let v : List ℕ = values part.fields bits in
         let n : ℕ = total part.fields in
-        let g = guard_ok (ltb (length bits) n) ShortHeader (part.tests v >>= λ _. Ok (part.says v, drop n bits)) (x, rest) e in
-        let t = bind_ok (part.tests v) (λ _. Ok (part.says v, drop n bits)) (x, rest) g.1 in
-        let same = ok_is (part.says v, drop n bits) (x, rest) t.2 in
+        let g = guard_ok (ltb (length bits) n) ShortHeader (part.tests v >>= λ _. Ok (part.contents v, drop n bits)) (x, rest) e in
+        let t = bind_ok (part.tests v) (λ _. Ok (part.contents v, drop n bits)) (x, rest) g.1 in
+        let same = ok_is (part.contents v, drop n bits) (x, rest) t.2 in
         let s = spelled_again part.fields bits (ltb-false _ _ g.0) in
         let spells : SpellsPart part x (spelled part.fields v) =
-        record { numbers = v; held = s.1; passed = t.1; said = ap (λ (y : X × List Bool). y.0) same; text = refl } in (
+        record { numbers = v; held = s.1; passed = t.1; contents = ap (λ (y : X × List Bool). y.0) same; text = refl } in (
           spelled part.fields v,
           spells,
           sym (take-append-drop n bits) ∙ ap (λ (f : List Bool). f ++ drop n bits) (sym s.0) ∙ ap (λ (y : X × List Bool). spelled part.fields v ++ y.1) same,

@@ -18,7 +18,7 @@ use Rattle.header_bits.specs.PredictorPart.{predictor, predictor_fields, predict
 use Rattle.header_bits.specs.CoderPart.{coder_fields, coder_numbers, coder}
 use Rattle.header_bits.specs.TableParts.{fill_of, table_fields, numbers_text, signed_code, weight_count, weights, weights_by, constants, constants_by}
 use Rattle.header_bits.specs.TableParts.{has_constants}
-use Rattle.header_bits.specs.Header.{image_part_of, predictor_part_of, coder_part_of, coder_start, said, AreThere, params_of, start_by}
+use Rattle.header_bits.specs.Header.{image_part_of, predictor_part_of, coder_part_of, coder_start, header_contents, AreThere, params_of, start_by}
 use Rattle.header_bits.specs.Header.{coder_by_part, is_custom, has_each, has_table, weight_bits, constant_bits, header_of, header_at, SpellsHeader}
 use Rattle.header_bits.specs.Lawful.{IsLawful}
 use Rattle.header_bits.proofs.Numbers.{length-bits_of}
@@ -155,7 +155,7 @@ are_there position i p c two three four five ws ks facts passed ended =
 
 -- a table that was announced is among the parameters
 pub table_kept : (i : ImagePart) (p : PredictorPart) (at_weights : List Bool) (c : CoderPart) (at_constants : List Bool)
-    → has_table (params_of (said i p at_weights c at_constants)) ≡ (p.custom || has_constants c)
+    → has_table (params_of (header_contents i p at_weights c at_constants)) ≡ (p.custom || has_constants c)
 table_kept i p at_weights c at_constants = rw (custom p.custom p.resolution _, each c _) refl
   where
     custom : (b : Bool) (q : ℕ) (values : List ℤ) → is_custom (start_by b q values) ≡ b
@@ -171,7 +171,7 @@ table_kept i p at_weights c at_constants = rw (custom p.custom p.resolution _, e
 pub left_within : (p : Params) (bits left : List Bool) → header_at bits ≡ Ok (p, left) → length left ≤ length bits
 left_within p bits left e = let found = header_exact.found p bits left e in omega (arith, ap length found.2, length-append found.0 left)
 
--- it is what stands behind as many bits as were read
+-- it is what comes after as many bits as were read
 pub left_behind : (p : Params) (bits left : List Bool) (n : ℕ) → header_at bits ≡ Ok (p, left) → n ≡ length bits - length left
     → header_at bits ≡ Ok (p, drop n bits)
 left_behind p bits left n e size =

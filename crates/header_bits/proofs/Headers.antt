@@ -15,7 +15,7 @@ use Rattle.header_bits.specs.ImagePart.{image}
 use Rattle.header_bits.specs.PredictorPart.{predictor}
 use Rattle.header_bits.specs.CoderPart.{coder}
 use Rattle.header_bits.specs.TableParts.{weights, constants}
-use Rattle.header_bits.specs.Header.{Said, parts_at, SpellsParts, coder_start, params_of, header_at, SpellsHeader}
+use Rattle.header_bits.specs.Header.{HeaderContents, parts_at, SpellsParts, coder_start, params_of, header_at, SpellsHeader}
 use Rattle.header_bits.proofs.Exact.{part_exact, then_exact, as_exact}
 use Rattle.header_bits.proofs.Fronts.{bind_ok, guard_ok}
 use Rattle.header_bits.proofs.Reading.{ok_is}
@@ -127,7 +127,7 @@ pub header_refused : (bits : List Bool) (e : Fault) → parts_at bits ≡ Err e 
 unfolding header_at as_at
 header_refused bits e h = rw h refl
 
-pub header_read : (s : Said) (p : Params) (bits left : List Bool) → parts_at bits ≡ Ok (s, left) → p ≡ params_of s → header_at bits ≡ Ok (p, left)
+pub header_read : (s : HeaderContents) (p : Params) (bits left : List Bool) → parts_at bits ≡ Ok (s, left) → p ≡ params_of s → header_at bits ≡ Ok (p, left)
 unfolding header_at as_at
 header_read s p bits left h e = rw (h, ← e) refl
 
@@ -145,7 +145,7 @@ pub part_leaves : {X : Type 0} (part : Part X) (x : X) (bits rest : List Bool) �
 unfolding part_at
 part_leaves {X} part x bits rest e =
     let g = guard_ok (ltb (length bits) (total part.fields)) ShortHeader
-    (part.tests (values part.fields bits) >>= λ _. Ok (part.says (values part.fields bits), drop (total part.fields) bits)) (x, rest) e in
-    let t = bind_ok (part.tests (values part.fields bits)) (λ _. Ok (part.says (values part.fields bits), drop (total part.fields) bits)) (x, rest) g.1 in
-    let same = ok_is (part.says (values part.fields bits), drop (total part.fields) bits) (x, rest) t.2 in
+    (part.tests (values part.fields bits) >>= λ _. Ok (part.contents (values part.fields bits), drop (total part.fields) bits)) (x, rest) e in
+    let t = bind_ok (part.tests (values part.fields bits)) (λ _. Ok (part.contents (values part.fields bits), drop (total part.fields) bits)) (x, rest) g.1 in
+    let same = ok_is (part.contents (values part.fields bits), drop (total part.fields) bits) (x, rest) t.2 in
     (sym (ap (λ (y : X × List Bool). y.1) same), ltb-false _ _ g.0)

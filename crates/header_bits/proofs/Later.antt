@@ -1,4 +1,4 @@
--- Bytes behind a header change nothing in how it is read, or refused, unless it was too short.
+-- Bytes after a header change nothing in how it is read, or refused, unless it was too short.
 use Rattle.std.proofs.Common.{◌≡◌, ◌⊎◌, ◌+◌, ◌≤◌, Bool, true, false, cond, ltb, List, [], ◌∷◌, ◌++◌, length, drop, Result, Ok, Err, refl, ap, ◌∙◌, inl, inr}
 use Rattle.std.proofs.Common.{length-append, length-drop, arith}
 use Rattle.std.proofs.lemmas.Bool.{ltb-false, le-ltb}
@@ -52,16 +52,16 @@ part_goes {X} part more bits = by_test (ltb (length bits) (total part.fields)) r
   where
     by_test : (b : Bool) → ltb (length bits) (total part.fields) ≡ b
         → Goes more (cond b (Err ShortHeader)
-        (part.tests (values part.fields bits) >>= λ _. Ok (part.says (values part.fields bits), drop (total part.fields) bits)))
+        (part.tests (values part.fields bits) >>= λ _. Ok (part.contents (values part.fields bits), drop (total part.fields) bits)))
         (cond (ltb (length (bits ++ more)) (total part.fields)) (Err ShortHeader) (part.tests (values part.fields (bits ++ more))
-        >>= λ _. Ok (part.says (values part.fields (bits ++ more)), drop (total part.fields) (bits ++ more))))
+        >>= λ _. Ok (part.contents (values part.fields (bits ++ more)), drop (total part.fields) (bits ++ more))))
     by_test true e = inl refl
     by_test false e =
         let le : total part.fields ≤ length bits = ltb-false (length bits) (total part.fields) e in
         let there : ltb (length (bits ++ more)) (total part.fields) ≡ false =
         le-ltb (length (bits ++ more)) (total part.fields) (omega (arith, le, length-append bits more)) in
         rw (there, values_same part.fields bits more le, drop-append-le (total part.fields) bits more le)
-        (tested more (part.tests (values part.fields bits)) (part.says (values part.fields bits)) (drop (total part.fields) bits))
+        (tested more (part.tests (values part.fields bits)) (part.contents (values part.fields bits)) (drop (total part.fields) bits))
 
 then_goes : {X Y : Type 0} (first : Reading X) (second : X → Reading Y) → GoesOn first → ((x : X) → GoesOn (second x)) → GoesOn (then_at first second)
 unfolding then_at

@@ -1,4 +1,4 @@
--- Bits behind those that were read change nothing, but for what they end too early.
+-- Bits after those that were read change nothing, but for what they end too early.
 use Rattle.std.proofs.Common.{◌≡◌, ◌⊎◌, ◌≤◌, ℕ, zero, suc, Bool, true, false, cond, ltb, List, [], ◌∷◌, ◌++◌, length, take, drop, Result, Ok, Err, refl, inl}
 use Rattle.std.proofs.Common.{inr, arith}
 use Rattle.std.proofs.lemmas.Bool.{ltb-false, le-ltb}

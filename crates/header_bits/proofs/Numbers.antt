@@ -23,8 +23,8 @@ unfolding bits_of
 bits_of-add zero b v = ap (λ n. bits_of n v) (omega arith)
 bits_of-add (suc a) b v =
     let e : suc a + b ≡ suc (a + b) = omega arith in
-    let turned : b + a ≡ a + b = omega arith in
-    let h : v / 2 ^ b / 2 ^ a ≡ v / 2 ^ (a + b) = shr-shr v b a ∙ ap (λ k. v / 2 ^ k) turned in
+    let swapped : b + a ≡ a + b = omega arith in
+    let h : v / 2 ^ b / 2 ^ a ≡ v / 2 ^ (a + b) = shr-shr v b a ∙ ap (λ k. v / 2 ^ k) swapped in
     ap (λ n. bits_of n v) e ∙ rw h (ap (λ (bs : List Bool). eqb (v / 2 ^ (a + b) % 2) 1 ∷ bs) (bits_of-add a b v))
 
 -- what lies above the bits doesn't matter
@@ -38,7 +38,7 @@ bits_of-low (suc n) m a v le =
 pub bits_of-mod : (n m v : ℕ) → n ≤ m → bits_of n (v % 2 ^ m) ≡ bits_of n v
 bits_of-mod n m v le = sym (bits_of-low n m (v / 2 ^ m) (v % 2 ^ m) le) ∙ ap (bits_of n) (shr_split v m)
 
--- one number behind another
+-- one number after another
 pub bits_of-join : (a b u v : ℕ) → v < 2 ^ b → bits_of (a + b) (u * 2 ^ b + v) ≡ bits_of a u ++ bits_of b v
 bits_of-join a b u v lt =
     bits_of-add a b (u * 2 ^ b + v) ∙ rw (div-mul-add u (2 ^ b) v lt, bits_of-low b b u v (omega arith)) refl
@@ -118,7 +118,7 @@ one_bit : bits_of 1 1 ≡ true ∷ []
 unfolding bits_of
 one_bit = refl
 
--- one, behind zeros
+-- one, after zeros
 pub bits_of_one : (n : ℕ) → bits_of (n + 1) 1 ≡ replicate n false ++ true ∷ []
 bits_of_one n = bits_of-add n 1 1 ∙ ap (λ (k : ℕ). bits_of n k ++ bits_of 1 1) (omega arith) ∙ ap (λ (x : List Bool). x ++ bits_of 1 1) (bits_of_zero n)
     ∙ ap (λ (x : List Bool). replicate n false ++ x) one_bit

@@ -1,4 +1,4 @@
--- A part that is read: too short, refused, or said.
+-- A part that is looked through: it is too short, refused, or read.
 use Rattle.std.proofs.Common.{◌≡◌, ℕ, ◌<◌, ◌≤◌, Bool, true, false, List, length, drop, Result, Ok, Err, refl, sym, subst}
 use Rattle.std.proofs.lemmas.Bool.{le-ltb, lt-ltb}
 use Rattle.cube_core.specs.declared.fault.Fault.{Fault}
@@ -21,10 +21,10 @@ pub part_refused : {X : Type 0} (part : Part X) (bits : List Bool) (v : List ℕ
 unfolding part_at
 part_refused part bits v e le is refused = rw (le-ltb (length bits) (total part.fields) le, ← is, refused) refl
 
-pub part_said : {X : Type 0} (part : Part X) (bits : List Bool) (v : List ℕ) (x : X) → total part.fields ≤ length bits → v ≡ values part.fields bits
-    → part.tests v ≡ fine → x ≡ part.says v → part_at part bits ≡ Ok (x, drop (total part.fields) bits)
+pub part_is_read : {X : Type 0} (part : Part X) (bits : List Bool) (v : List ℕ) (x : X) → total part.fields ≤ length bits → v ≡ values part.fields bits
+    → part.tests v ≡ fine → x ≡ part.contents v → part_at part bits ≡ Ok (x, drop (total part.fields) bits)
 unfolding part_at
-part_said part bits v x le is passed says = rw (le-ltb (length bits) (total part.fields) le, ← is, passed, says) refl
+part_is_read part bits v x le is passed contents = rw (le-ltb (length bits) (total part.fields) le, ← is, passed, contents) refl
 
 pub values_held : {X : Type 0} (part : Part X) (bits : List Bool) (v : List ℕ) → total part.fields ≤ length bits → v ≡ values part.fields bits
     → AreValues part.fields v

@@ -1,4 +1,4 @@
--- Values in the places of a list, and zeros behind them.
+-- Values in the places of a list, and zeros after them.
 use Rattle.std.proofs.Common.{◌≡◌, ℕ, zero, suc, ◌+◌, ◌-◌, ◌*◌, ◌<◌, ◌≤◌, List, [], ◌∷◌, ◌++◌, length, take, drop, replicate, Ok, inl, refl, sym, ap, ◌∙◌}
 use Rattle.std.proofs.Common.{arith, append_assoc, get_or, add-one, drop-cons, Err, set, inr}
 use Rattle.std.proofs.lemmas.List.{append-nil, get_or-take, length-take, drop_all, replicate-append-replicate, drop-drop, drop-take, drop_at, take-append-drop}
@@ -9,7 +9,7 @@ use Rattle.std.proofs.Math.Seq.{take-add, take-suc-set}
 use Rattle.std.specs.Prelude.{Result, OnOk}
 use Rattle.std.proofs.lemmas.Bool.{cases_lt}
 
--- of the values up to the size nothing stands behind them
+-- of the values up to the size nothing comes after them
 pub nothing_behind : (size : ℕ) (values : List ℕ) → drop size (take size values) ≡ []
 nothing_behind size values = drop_all size (take size values) (omega (arith, length-take size values))
 
@@ -57,7 +57,7 @@ zeros_of_hand size at count spare values filled behind same le long are =
     let parts : count + (spare - count) ≡ spare = omega arith in
     rw (none, front) (ap zeros (sym parts) ∙ sym (replicate-append-replicate count (spare - count) 0))
 
--- numbers that were written behind others
+-- numbers that were written after others
 pub written_more : (at count : ℕ) (xs ys behind : List ℕ) → at ≤ length xs → count ≤ length ys → take (at + count) (take at xs ++ (ys ++ behind))
     ≡ take at xs ++ take count ys
 written_more at count xs ys behind first second =
@@ -102,7 +102,7 @@ pub on_ok_of : {A E : Type 0} (r : Result A E) (P R : Type 0) → (P → R) → 
 on_ok_of (Ok x) P R f p = f p
 on_ok_of (Err e) P R f p = tt
 
--- numbers that are written behind the values held
+-- numbers that are written after the values held
 pub held_all : (values list behind : List ℕ) (held : ℕ) → held ≤ length values → take (held + length list) (take held values ++ (list ++ behind))
     ≡ take held values ++ list
 held_all values list behind held le =

@@ -22,9 +22,9 @@ use Rattle.header_bits.specs.declared.coder_part.CoderPart.{CoderPart}
 use Rattle.header_bits.specs.declared.coder_part.CoderPart.TheVariants.{Sample, Block}
 use Rattle.header_bits.specs.Layout.{IsValue, AreValues}
 use Rattle.header_bits.specs.Parts.{fine, reserved_test, part_at, SpellsPart}
-use Rattle.header_bits.specs.ImagePart.{image, image_fields, image_tests, image_says}
-use Rattle.header_bits.specs.PredictorPart.{predictor, predictor_fields, predictor_tests, start_tests, predictor_says, exponent_of}
-use Rattle.header_bits.specs.CoderPart.{coder_by, coder, sample_fields, sample_tests, sample_says, block_fields, block_tests, block_says}
+use Rattle.header_bits.specs.ImagePart.{image, image_fields, image_tests, image_contents}
+use Rattle.header_bits.specs.PredictorPart.{predictor, predictor_fields, predictor_tests, start_tests, predictor_contents, exponent_of}
+use Rattle.header_bits.specs.CoderPart.{coder_by, coder, sample_fields, sample_tests, sample_contents, block_fields, block_tests, block_contents}
 use Rattle.header_bits.specs.TableParts.{weight_count, weights, weights_by, constants, constants_by, has_constants, signed_of, some_above}
 use Rattle.header_bits.specs.Header.{SpellsHeader, params_of, start_by, count_by, coder_by_part}
 use Rattle.header_bits.specs.Lawful.{IsLawful, IsExponent, IsSigned, IsBlockSize, IsWeightStart, IsCountStart, IsCoder}
@@ -49,12 +49,12 @@ pub record IsImage (i : ImagePart) : Type 0 where
   order : IsOrder i.shape i.order
   word : InRange 1 8 i.word
 
-order_said : (b : Bool) (s : Sizes) (depth : ℕ) → 1 ≤ depth → (b && ltb s.bands depth) ≡ false → IsOrder s (cond b (Bi depth) Bsq)
-order_said true s depth le e = (le, ltb-false s.bands depth e)
-order_said false s depth le e = tt
+order_is_lawful : (b : Bool) (s : Sizes) (depth : ℕ) → 1 ≤ depth → (b && ltb s.bands depth) ≡ false → IsOrder s (cond b (Bi depth) Bsq)
+order_is_lawful true s depth le e = (le, ltb-false s.bands depth e)
+order_is_lawful false s depth le e = tt
 
-pub image_said : (v : List ℕ) → AreValues image_fields v → image_tests v ≡ fine → IsImage (image_says v)
-image_said v h e =
+pub image_is_lawful : (v : List ℕ) → AreValues image_fields v → image_tests v ≡ fine → IsImage (image_contents v)
+image_is_lawful v h e =
     let a = then_ok (reserved_test 57 2 (get_or v 5 0)) _ e in
     let b = then_ok (refuse_if (eqb (get_or v 6 0) 1) (FieldRange field.DynamicRange (pos 1))) _ a.1 in
     let c = then_ok (refuse_if (eqb (get_or v 7 0) 0 && ltb (get_or v 3 0) (get_or v 8 0)) (Disagree rule.DepthOverBands)) _ b.1 in
@@ -66,13 +66,13 @@ image_said v h e =
       sizes =
           record { columns = held_at image_fields v 1 h (lit< tt); rows = held_at image_fields v 2 h (lit< tt); bands = held_at image_fields v 3 h (lit< tt) };
       kind = (omega (arith, some, bits), bits.1);
-      order = order_said (eqb (get_or v 7 0) 0) (image_says v).shape (get_or v 8 0) (held_at image_fields v 8 h (lit< tt)).0 (refuse_ok _ _ c.0);
+      order = order_is_lawful (eqb (get_or v 7 0) 0) (image_contents v).shape (get_or v 8 0) (held_at image_fields v 8 h (lit< tt)).0 (refuse_ok _ _ c.0);
       word = held_at image_fields v 10 h (lit< tt);
     }
 
 image_spelt : (i : ImagePart) (bits : List Bool) → SpellsPart image i bits → IsImage i
 unfolding image
-image_spelt i bits s = subst (λ (x : ImagePart). IsImage x) s.said (image_said s.numbers s.held s.passed)
+image_spelt i bits s = subst (λ (x : ImagePart). IsImage x) s.contents (image_is_lawful s.numbers s.held s.passed)
 
 -- ---- the predictor part
 
@@ -90,8 +90,8 @@ record IsPredictorPart (i : ImagePart) (p : PredictorPart) : Type 0 where
   start : p.custom ≡ true → InRange 3 (p.omega + 3) p.resolution
   few : p.resolution ≤ p.omega + 3
 
-flag_said : (n columns : ℕ) → n < 2 → 1 ≤ columns → (eqb n 0 && eqb columns 1) ≡ false → eqb n 1 ≡ false → 2 ≤ columns
-flag_said n columns small some e other =
+flag_is_lawful : (n columns : ℕ) → n < 2 → 1 ≤ columns → (eqb n 0 && eqb columns 1) ≡ false → eqb n 1 ≡ false → 2 ≤ columns
+flag_is_lawful n columns small some e other =
     let none : n ≡ 0 = zero_flag n small (eqb-false n 1 other) in
     let more : columns ≡ 1 → ⊥ = eqb-false columns 1 (under (eqb n 0) (eqb columns 1) e (eq-eqb n 0 none)) in
     omega (arith, some, more)
@@ -99,15 +99,15 @@ flag_said n columns small some e other =
     zero_flag : (n : ℕ) → n < 2 → (n ≡ 1 → ⊥) → n ≡ 0
     zero_flag n lt ne = omega (arith, ne)
 
-exponent_said : (n : ℕ) → n < 16 → IsExponent (exponent_of n)
-exponent_said n lt = (omega (arith, ints), omega (arith, ints))
+exponent_is_lawful : (n : ℕ) → n < 16 → IsExponent (exponent_of n)
+exponent_is_lawful n lt = (omega (arith, ints), omega (arith, ints))
 
-exponents_said : (m n : ℕ) → m ≤ n → exponent_of m ≤ℤ exponent_of n
-exponents_said m n le = omega (arith, ints)
+exponents_in_order : (m n : ℕ) → m ≤ n → exponent_of m ≤ℤ exponent_of n
+exponents_in_order m n le = omega (arith, ints)
 
-predictor_said : (i : ImagePart) (v : List ℕ) → 1 ≤ i.shape.columns → AreValues predictor_fields v → predictor_tests i v ≡ fine
-    → IsPredictorPart i (predictor_says v)
-predictor_said i v some h e =
+predictor_is_lawful : (i : ImagePart) (v : List ℕ) → 1 ≤ i.shape.columns → AreValues predictor_fields v → predictor_tests i v ≡ fine
+    → IsPredictorPart i (predictor_contents v)
+predictor_is_lawful i v some h e =
     let a = then_ok (reserved_test 96 2 (get_or v 0 0)) _ e in
     let b = then_ok (refuse_if (eqb (get_or v 2 0) 0 && eqb i.shape.columns 1) (Disagree rule.FullOneColumn)) _ a.1 in
     let c = then_ok (reserved_test 103 1 (get_or v 3 0)) _ b.1 in
@@ -128,15 +128,15 @@ predictor_said i v some h e =
     let interval : (4 ≤ get_or v 8 0) × (get_or v 8 0 < 20) = held_at predictor_fields v 8 h (lit< tt) in
     record {
       previous = omega (arith, previous);
-      mode = flag_said (get_or v 2 0) i.shape.columns (held_at predictor_fields v 2 h (lit< tt)).1 some (refuse_ok _ _ b.0);
-      sums = flag_said (get_or v 4 0) i.shape.columns (held_at predictor_fields v 4 h (lit< tt)).1 some (refuse_ok _ _ d.0);
+      mode = flag_is_lawful (get_or v 2 0) i.shape.columns (held_at predictor_fields v 2 h (lit< tt)).1 some (refuse_ok _ _ b.0);
+      sums = flag_is_lawful (get_or v 4 0) i.shape.columns (held_at predictor_fields v 4 h (lit< tt)).1 some (refuse_ok _ _ d.0);
       register = (ltb-false (get_or v 6 0) 32 (refuse_ok _ _ g.0), (held_at predictor_fields v 6 h (lit< tt)).1);
       omega = (fraction.0, omega (arith, fraction));
       wide = ltb-false (get_or v 6 0) (i.kind.bits + get_or v 7 0 + 2) (refuse_ok _ _ j.0);
       interval = (interval.0, ltb-false 11 (get_or v 8 0) (refuse_ok _ _ k.0));
-      vmin = exponent_said (get_or v 9 0) (held_at predictor_fields v 9 h (lit< tt)).1;
-      vmax = exponent_said (get_or v 10 0) (held_at predictor_fields v 10 h (lit< tt)).1;
-      exponents = exponents_said (get_or v 9 0) (get_or v 10 0) (ltb-false (get_or v 10 0) (get_or v 9 0) (refuse_ok _ _ l.0));
+      vmin = exponent_is_lawful (get_or v 9 0) (held_at predictor_fields v 9 h (lit< tt)).1;
+      vmax = exponent_is_lawful (get_or v 10 0) (held_at predictor_fields v 10 h (lit< tt)).1;
+      exponents = exponents_in_order (get_or v 9 0) (get_or v 10 0) (ltb-false (get_or v 10 0) (get_or v 9 0) (refuse_ok _ _ l.0));
       start = λ custom. (
         ltb-false (get_or v 14 0) 3 (under (eqb (get_or v 12 0) 1) (ltb (get_or v 14 0) 3) (refuse_ok _ _ s.0) custom),
         ltb-false (get_or v 7 0 + 3) (get_or v 14 0) (refuse_ok _ _ s.1),
@@ -146,7 +146,7 @@ predictor_said i v some h e =
 
 predictor_spelt : (i : ImagePart) (p : PredictorPart) (bits : List Bool) → 1 ≤ i.shape.columns → SpellsPart (predictor i) p bits → IsPredictorPart i p
 unfolding predictor
-predictor_spelt i p bits some s = subst (λ (x : PredictorPart). IsPredictorPart i x) s.said (predictor_said i s.numbers some s.held s.passed)
+predictor_spelt i p bits some s = subst (λ (x : PredictorPart). IsPredictorPart i x) s.contents (predictor_is_lawful i s.numbers some s.held s.passed)
 
 -- ---- the weight table
 
@@ -169,7 +169,8 @@ weights_spelt i p ws bits some s custom = by_flag p.custom custom s
         ∙ table_count (weight_count p.previous p.reduced i.shape.bands) p.resolution t.numbers t.held in
         let range = all_signed p.resolution (take (weight_count p.previous p.reduced i.shape.bands) t.numbers) some
         (table_small (weight_count p.previous p.reduced i.shape.bands) p.resolution t.numbers t.held) in
-        subst (λ (xs : List ℤ). (length xs ≡ weight_count p.previous p.reduced i.shape.bands) × AllByRecursion (IsSigned p.resolution) xs) t.said (many, range)
+        subst (λ (xs : List ℤ). (length xs ≡ weight_count p.previous p.reduced i.shape.bands) × AllByRecursion (IsSigned p.resolution) xs) t.contents
+        (many, range)
     by_flag false e t = absurd (cc)
 
 -- ---- the coder part
@@ -179,8 +180,8 @@ IsCoderPart i (Sample umax gamma_star gamma_zero constant table) =
     InRange 8 32 umax × InRange 4 9 gamma_star × InRange 1 8 gamma_zero × (gamma_zero + 1 ≤ gamma_star) × (table ≡ false → constant ≤ i.kind.bits - 2)
 IsCoderPart i (Block size restricted reference) = IsBlockSize size × (restricted ≡ true → i.kind.bits ≤ 4) × InRange 1 4096 reference
 
-sample_said : (i : ImagePart) (v : List ℕ) → AreValues sample_fields v → sample_tests i v ≡ fine → IsCoderPart i (sample_says v)
-sample_said i v h e =
+sample_is_lawful : (i : ImagePart) (v : List ℕ) → AreValues sample_fields v → sample_tests i v ≡ fine → IsCoderPart i (sample_contents v)
+sample_is_lawful i v h e =
     let a = then_ok (refuse_if (ltb (get_or v 0 0) 8) (FieldRange field.Umax (pos (get_or v 0 0)))) _ e in
     let b = then_ok (refuse_if (ltb 9 (get_or v 1 0)) (FieldRange field.GammaStar (pos (get_or v 1 0)))) _ a.1 in
     let c = then_ok (refuse_if (ltb (get_or v 1 0) (get_or v 2 0 + 1)) (Disagree rule.CounterOrder)) _ b.1 in
@@ -193,24 +194,24 @@ sample_said i v h e =
           (under (not (eqb (get_or v 4 0) 1)) (ltb (i.kind.bits - 2) (get_or v 3 0)) (refuse_ok _ _ f.0) (rw none refl))),
     )
 
-size_said : (n : ℕ) → n < 4 → IsBlockSize (8 * 2 ^ n)
-size_said zero lt = inl refl
-size_said (suc zero) lt = inr (inl refl)
-size_said (suc (suc zero)) lt = inr (inr (inl refl))
-size_said (suc (suc (suc zero))) lt = inr (inr (inr refl))
-size_said (suc (suc (suc (suc n)))) lt = absurd (omega arith)
+size_is_lawful : (n : ℕ) → n < 4 → IsBlockSize (8 * 2 ^ n)
+size_is_lawful zero lt = inl refl
+size_is_lawful (suc zero) lt = inr (inl refl)
+size_is_lawful (suc (suc zero)) lt = inr (inr (inl refl))
+size_is_lawful (suc (suc (suc zero))) lt = inr (inr (inr refl))
+size_is_lawful (suc (suc (suc (suc n)))) lt = absurd (omega arith)
 
-block_said : (at : ℕ) (i : ImagePart) (v : List ℕ) → AreValues block_fields v → block_tests at i v ≡ fine → IsCoderPart i (block_says v)
-block_said at i v h e =
+block_is_lawful : (at : ℕ) (i : ImagePart) (v : List ℕ) → AreValues block_fields v → block_tests at i v ≡ fine → IsCoderPart i (block_contents v)
+block_is_lawful at i v h e =
     let b = then_ok (reserved_test at 1 (get_or v 0 0)) (refuse_if (eqb (get_or v 2 0) 1 && ltb 4 i.kind.bits) (Disagree rule.RestrictedOverFour)) e in (
-      size_said (get_or v 1 0) (held_at block_fields v 1 h (lit< tt)).1,
+      size_is_lawful (get_or v 1 0) (held_at block_fields v 1 h (lit< tt)).1,
       (λ restricted. ltb-false 4 i.kind.bits (under (eqb (get_or v 2 0) 1) (ltb 4 i.kind.bits) (refuse_ok _ _ b.1) restricted)),
       held_at block_fields v 3 h (lit< tt),
     )
 
 coder_by_spelt : (b : Bool) (at : ℕ) (i : ImagePart) (c : CoderPart) (bits : List Bool) → SpellsPart (coder_by b at i) c bits → IsCoderPart i c
-coder_by_spelt true at i c bits s = subst (λ (x : CoderPart). IsCoderPart i x) s.said (block_said at i s.numbers s.held s.passed)
-coder_by_spelt false at i c bits s = subst (λ (x : CoderPart). IsCoderPart i x) s.said (sample_said i s.numbers s.held s.passed)
+coder_by_spelt true at i c bits s = subst (λ (x : CoderPart). IsCoderPart i x) s.contents (block_is_lawful at i s.numbers s.held s.passed)
+coder_by_spelt false at i c bits s = subst (λ (x : CoderPart). IsCoderPart i x) s.contents (sample_is_lawful i s.numbers s.held s.passed)
 
 coder_spelt : (at : ℕ) (i : ImagePart) (c : CoderPart) (bits : List Bool) → SpellsPart (coder at i) c bits → IsCoderPart i c
 unfolding coder
@@ -226,36 +227,36 @@ constants_spelt at i c ks bits s table = by_flag (has_constants c) table s
     by_flag : (b : Bool) → b ≡ true → SpellsPart (constants_by b at i) ks bits → (length ks ≡ i.shape.bands) × AllByRecursion (λ v. v ≤ i.kind.bits - 2) ks
     by_flag true e t =
         let small = then_ok (refuse_if (some_above (i.kind.bits - 2) (take i.shape.bands t.numbers)) (Disagree rule.AccumulatorEntry)) _ t.passed in
-        subst (λ (xs : List ℕ). (length xs ≡ i.shape.bands) × AllByRecursion (λ v. v ≤ i.kind.bits - 2) xs) t.said
+        subst (λ (xs : List ℕ). (length xs ≡ i.shape.bands) × AllByRecursion (λ v. v ≤ i.kind.bits - 2) xs) t.contents
         (table_count i.shape.bands 4 t.numbers t.held, none_above (i.kind.bits - 2) (take i.shape.bands t.numbers) (refuse_ok _ _ small.0))
     by_flag false e t = absurd (cc)
 
 -- ---- the header
 
-start_said : (p : Params) (b : Bool) (q : ℕ) (ws : List ℤ) → (b ≡ true → InRange 3 (p.omega + 3) q)
+start_is_lawful : (p : Params) (b : Bool) (q : ℕ) (ws : List ℤ) → (b ≡ true → InRange 3 (p.omega + 3) q)
     → (b ≡ true → (length ws ≡ weight_count p.previous p.reduced p.shape.bands) × AllByRecursion (IsSigned q) ws)
     → IsWeightStart p (start_by b q ws)
-start_said p true q ws h k = (let there = h refl in let table = k refl in (there, table.0, table.1))
-start_said p false q ws h k = tt
+start_is_lawful p true q ws h k = (let there = h refl in let table = k refl in (there, table.0, table.1))
+start_is_lawful p false q ws h k = tt
 
-count_said : (p : Params) (b : Bool) (constant : ℕ) (ks : List ℕ) → (b ≡ false → constant ≤ p.kind.bits - 2)
+count_is_lawful : (p : Params) (b : Bool) (constant : ℕ) (ks : List ℕ) → (b ≡ false → constant ≤ p.kind.bits - 2)
     → (b ≡ true → (length ks ≡ p.shape.bands) × AllByRecursion (λ v. v ≤ p.kind.bits - 2) ks)
     → IsCountStart p (count_by b constant ks)
-count_said p true constant ks one k = k refl
-count_said p false constant ks one k = one refl
+count_is_lawful p true constant ks one k = k refl
+count_is_lawful p false constant ks one k = one refl
 
-coder_said : (p : Params) (i : ImagePart) (c : CoderPart) (ks : List ℕ) → p.kind ≡ i.kind → p.shape ≡ i.shape → IsCoderPart i c
+coder_is_lawful : (p : Params) (i : ImagePart) (c : CoderPart) (ks : List ℕ) → p.kind ≡ i.kind → p.shape ≡ i.shape → IsCoderPart i c
     → (has_constants c ≡ true → (length ks ≡ i.shape.bands) × AllByRecursion (λ v. v ≤ i.kind.bits - 2) ks) → IsCoder p (coder_by_part c ks)
-coder_said p i (Sample umax gamma_star gamma_zero constant table) ks e f h k =
-    (h.0, h.1, h.2, h.3, count_said p table constant ks (λ none. rw e (h.4 none)) (λ there. rw (e, f) (k there)))
-coder_said p i (Block size restricted reference) ks e f h k = (h.0, (λ there. rw e (h.1 there)), h.2)
+coder_is_lawful p i (Sample umax gamma_star gamma_zero constant table) ks e f h k =
+    (h.0, h.1, h.2, h.3, count_is_lawful p table constant ks (λ none. rw e (h.4 none)) (λ there. rw (e, f) (k there)))
+coder_is_lawful p i (Block size restricted reference) ks e f h k = (h.0, (λ there. rw e (h.1 there)), h.2)
 
 pub spelt_is_lawful : (p : Params) (bits : List Bool) → SpellsHeader p bits → IsLawful p
 unfolding AreWeights
-spelt_is_lawful p bits s = subst (λ (x : Params). IsLawful x) s.same said
+spelt_is_lawful p bits s = subst (λ (x : Params). IsLawful x) s.same lawful
   where
-    said : IsLawful (params_of s.from)
-    said =
+    lawful : IsLawful (params_of s.from)
+    lawful =
         let x = s.from in
         let i : ImagePart = x.0.0.0.0 in
         let d : PredictorPart = x.0.0.0.1 in
@@ -278,9 +279,9 @@ spelt_is_lawful p bits s = subst (λ (x : Params). IsLawful x) s.same said
           vmin = second.vmin;
           vmax = second.vmax;
           exponents = second.exponents;
-          start = start_said (params_of x) d.custom d.resolution x.0.0.1 second.start
+          start = start_is_lawful (params_of x) d.custom d.resolution x.0.0.1 second.start
               (λ custom. weights_spelt i d x.0.0.1 _ (omega (arith, second.start custom)) s.spells.first.first.second custom);
-          coder = coder_said (params_of x) i x.0.1 x.1 refl refl third (λ table. constants_spelt _ i x.0.1 x.1 _ s.spells.second table);
+          coder = coder_is_lawful (params_of x) i x.0.1 x.1 refl refl third (λ table. constants_spelt _ i x.0.1 x.1 _ s.spells.second table);
         }
 
 -- ---- what reading the parts tells

@@ -17,18 +17,18 @@ use Rattle.header_bits.specs.Parts.{Part, fine, reserved_test, part_at, Passes}
 use Rattle.header_bits.specs.TableParts.{weight_count, fill_of, table_fields, number_fields, signed_of, weights_by, weights, some_above, constants_by}
 use Rattle.header_bits.specs.TableParts.{has_constants, constants}
 use Rattle.header_bits.specs.Header.{start_by, coder_by_part}
-use Rattle.header_bits.proofs.PartReading.{part_short, part_refused, part_said}
+use Rattle.header_bits.proofs.PartReading.{part_short, part_refused, part_is_read}
 use Rattle.header_bits.proofs.TableNumbers.{total_table, table_numbers, table_zeros}
 
--- the first bit behind the numbers, and behind the table
+-- the first bit after the numbers, and after the table
 pub table_end : (count bits : ℕ) (left : List Bool) → drop (fill_of (count * bits)) (drop (count * bits) left) ≡ drop (total (table_fields count bits)) left
 table_end count bits left = drop-drop (fill_of (count * bits)) (count * bits) left ∙ ap (λ n. drop n left) (sym (total_table count bits))
 
 -- a part passes where it is there and its tests are these
 passes : {X : Type 0} (part : Part X) (r : Test) (left new : List Bool) → total part.fields ≤ length left → r ≡ part.tests (values part.fields left)
     → new ≡ drop (total part.fields) left → Passes part r left new
-passes part (Ok u) left new le e n = part_said part left (values part.fields left) (part.says (values part.fields left)) le refl (sym e) refl
-    ∙ ap (λ (x : List Bool). Ok (part.says (values part.fields left), x)) (sym n)
+passes part (Ok u) left new le e n = part_is_read part left (values part.fields left) (part.contents (values part.fields left)) le refl (sym e) refl
+    ∙ ap (λ (x : List Bool). Ok (part.contents (values part.fields left), x)) (sym n)
 passes part (Err d) left new le e n = part_refused part left (values part.fields left) d le refl (sym e)
 
 -- ---- the weight table
@@ -42,10 +42,10 @@ abbrev table_of : Bool → ImagePart → PredictorPart → Part (List ℤ)
 table_of b i p = weights_by b (entries_of i p) p.resolution
 
 pub weights_absent : (i : ImagePart) (p : PredictorPart) (left : List Bool) → p.custom ≡ false
-    → part_at (weights i p) left ≡ Ok ((weights i p).says (values (weights i p).fields left), left)
+    → part_at (weights i p) left ≡ Ok ((weights i p).contents (values (weights i p).fields left), left)
 unfolding part_at weights total values
-weights_absent i p left e = subst (λ (b : Bool). part_at (table_of b i p) left ≡ Ok ((table_of b i p).says (values (table_of b i p).fields left), left)) (sym e)
-    (rw (le-ltb (length left) 0 (omega arith)) refl)
+weights_absent i p left e = subst (λ (b : Bool). part_at (table_of b i p) left ≡ Ok ((table_of b i p).contents (values (table_of b i p).fields left), left))
+    (sym e) (rw (le-ltb (length left) 0 (omega arith)) refl)
 
 pub weights_total : (i : ImagePart) (p : PredictorPart) → p.custom ≡ true → total (weights i p).fields ≡ total (table_fields (entries_of i p) p.resolution)
 unfolding weights
@@ -78,10 +78,10 @@ abbrev above_fault : ImagePart → List Bool → Test
 above_fault i left = refuse_if (some_above (i.kind.bits - 2) (values (number_fields i.shape.bands 4) left)) (Disagree rule.AccumulatorEntry)
 
 pub constants_absent : (at : ℕ) (i : ImagePart) (c : CoderPart) (left : List Bool) → has_constants c ≡ false
-    → part_at (constants at i c) left ≡ Ok ((constants at i c).says (values (constants at i c).fields left), left)
+    → part_at (constants at i c) left ≡ Ok ((constants at i c).contents (values (constants at i c).fields left), left)
 unfolding part_at constants total values
 constants_absent at i c left e = subst (λ (b : Bool). part_at (constants_by b at i) left
-    ≡ Ok ((constants_by b at i).says (values (constants_by b at i).fields left), left)) (sym e) (rw (le-ltb (length left) 0 (omega arith)) refl)
+    ≡ Ok ((constants_by b at i).contents (values (constants_by b at i).fields left), left)) (sym e) (rw (le-ltb (length left) 0 (omega arith)) refl)
 
 pub constants_total : (at : ℕ) (i : ImagePart) (c : CoderPart) → has_constants c ≡ true → total (constants at i c).fields ≡ total (table_fields i.shape.bands 4)
 unfolding constants
@@ -114,21 +114,21 @@ constants_passed at i c r left new there le good test end =
     subst (λ (b : Bool). Passes (constants_by b at i) r left new) (sym there)
     (passes (constants_by true at i) r left new le (test ∙ sym (constants_tests at i left ∙ rw good refl)) (end ∙ table_end i.shape.bands 4 left))
 
--- ---- what a table says, read again
+-- ---- the contents of a table, read again
 
 pub start_again : (i : ImagePart) (p : PredictorPart) (left : List Bool)
-    → start_by p.custom p.resolution ((weights i p).says (values (weights i p).fields left))
+    → start_by p.custom p.resolution ((weights i p).contents (values (weights i p).fields left))
     ≡ start_by p.custom p.resolution (map (signed_of p.resolution) (values (number_fields (entries_of i p) p.resolution) left))
 unfolding weights
 start_again i p left = by_flag p.custom
   where
-    by_flag : (b : Bool) → start_by b p.resolution ((table_of b i p).says (values (table_of b i p).fields left))
+    by_flag : (b : Bool) → start_by b p.resolution ((table_of b i p).contents (values (table_of b i p).fields left))
         ≡ start_by b p.resolution (map (signed_of p.resolution) (values (number_fields (entries_of i p) p.resolution) left))
     by_flag true = rw (table_numbers (entries_of i p) p.resolution left) refl
     by_flag false = refl
 
 pub coder_again : (at : ℕ) (i : ImagePart) (c : CoderPart) (left : List Bool)
-    → coder_by_part c ((constants at i c).says (values (constants at i c).fields left)) ≡ coder_by_part c (values (number_fields i.shape.bands 4) left)
+    → coder_by_part c ((constants at i c).contents (values (constants at i c).fields left)) ≡ coder_by_part c (values (number_fields i.shape.bands 4) left)
 unfolding constants
 coder_again at i (Sample umax gamma_star gamma_zero constant true) left = rw (table_numbers i.shape.bands 4 left) refl
 coder_again at i (Sample umax gamma_star gamma_zero constant false) left = refl

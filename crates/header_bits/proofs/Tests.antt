@@ -13,7 +13,7 @@ pub then_ok : (a b : Test) → (a >> b) ≡ fine → (a ≡ fine) × (b ≡ fine
 then_ok (Ok t) b e = (refl, e)
 then_ok (Err f) b e = absurd cc
 
--- a test that passed, and those behind it
+-- a test that passed, and those after it
 infixr 10 ◌then_fine◌
 pub ◌then_fine◌ : {a b : Test} → a ≡ fine → b ≡ fine → (a >> b) ≡ fine
 p then_fine q = rw (p, q) refl

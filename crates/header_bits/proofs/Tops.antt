@@ -9,7 +9,7 @@ use Rattle.cube_core.proofs.Bounds.{power_grows}
 use Rattle.header_bits.specs.Bits.{bits_of}
 use Rattle.header_bits.proofs.Numbers.{bits_of-join}
 
--- a number, and the number behind its highest bits
+-- a number, and the number after its highest bits
 pub parts : (n k high word : ℕ) → high * 2 ^ k ≤ word → word < high * 2 ^ k + 2 ^ k → bits_of (n + k) word ≡ bits_of n high ++ bits_of k (word - high * 2 ^ k)
 parts n k high word least most =
     let low : ℕ = word - high * 2 ^ k in

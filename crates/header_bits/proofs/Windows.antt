@@ -16,7 +16,7 @@ use Rattle.header_bits.proofs.Words.{highest_bits, highest_shifted}
 pub whole_tail : (bytes : List ℕ) (i : ℕ) → take (length bytes - i) (drop i bytes) ≡ drop i bytes
 whole_tail bytes i = take_all (length bytes - i) (drop i bytes) (omega (arith, length-drop i bytes))
 
--- bits at the front, and then those behind them
+-- bits at the front, and then those after them
 pub front_dropped : (n v : ℕ) (bits rest : List Bool) → bits ≡ bits_of n v ++ rest → drop n bits ≡ rest
 front_dropped n v bits rest e = ap (drop n) e ∙ drop_at (bits_of n v) rest n (length-bits_of n v)
 
@@ -130,7 +130,7 @@ piece_below word n few lt =
     let size : n + (64 - n) ≡ 64 = omega arith in
     rw (two_shifts word n (omega arith)) (shr_below word n (64 - n) (subst (λ (k : ℕ). word < 2 ^ k) (sym size) lt))
 
--- one piece behind another
+-- one piece after another
 pub pieces_joined : (bytes : List ℕ) (at n high low : ℕ) → 32 ≤ n → low < 2 ^ 32
     → drop at (bits_of_bytes bytes) ≡ bits_of (n - 32) high ++ drop (at + (n - 32)) (bits_of_bytes bytes)
     → drop (at + (n - 32)) (bits_of_bytes bytes) ≡ bits_of 32 low ++ drop (at + (n - 32) + 32) (bits_of_bytes bytes)
@@ -144,14 +144,14 @@ pieces_joined bytes at n high low le lt first second =
     first ∙ ap (λ (x : List Bool). bits_of (n - 32) high ++ x) (second ∙ ap (λ k. bits_of 32 low ++ drop k all) position)
     ∙ sym (append_assoc (bits_of (n - 32) high) (bits_of 32 low) (drop (at + n) all)) ∙ ap (λ (x : List Bool). x ++ drop (at + n) all) (sym joined)
 
--- zeros that were counted, and more behind them
+-- zeros that were counted, and more after them
 pub zeros_joined : (at zeros some : ℕ) (bits after : List Bool) → drop at bits ≡ replicate zeros false ++ drop (at + zeros) bits
     → drop (at + zeros) bits ≡ replicate some false ++ after → drop at bits ≡ replicate (zeros + some) false ++ after
 zeros_joined at zeros some bits after first second =
     first ∙ ap (λ (x : List Bool). replicate zeros false ++ x) second ∙ sym (append_assoc (replicate zeros false) (replicate some false) after)
     ∙ ap (λ (x : List Bool). x ++ after) (replicate-append-replicate zeros some false)
 
--- the bits that a reader has left are those behind its position
+-- the bits that a reader has left are those after its position
 pub left_length : (at : ℕ) (bytes : List ℕ) (unread : Unread) → at ≤ 8 * length bytes
     → record { count = 8 * length bytes; left = drop at (bits_of_bytes bytes) } ≡ unread → length unread.left + at ≡ 8 * length bytes
 left_length at bytes unread le e =

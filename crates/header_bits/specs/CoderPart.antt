@@ -30,8 +30,8 @@ sample_tests i v =
     >> refuse_if (not table && nat_lt (i.kind.bits - 2) (slice_index v 3)) (Disagree rule.StartConstant)
     >> refuse_if (table && nat_lt (slice_index v 3) 15) (Disagree rule.ConstantWithTable)
 
-abbrev pub sample_says : List ℕ → CoderPart
-sample_says v = Sample (slice_index v 0) (slice_index v 1) (slice_index v 2) (slice_index v 3) (slice_index v 4 == 1)
+abbrev pub sample_contents : List ℕ → CoderPart
+sample_contents v = Sample (slice_index v 0) (slice_index v 1) (slice_index v 2) (slice_index v 3) (slice_index v 4 == 1)
 
 abbrev pub block_fields : List Slot
 block_fields =
@@ -47,13 +47,13 @@ block_tests at i v =
     reserved_test at 1 (slice_index v 0)
     >> refuse_if (restricted && nat_lt 4 i.kind.bits) (Disagree rule.RestrictedOverFour)
 
-abbrev pub block_says : List ℕ → CoderPart
-block_says v = Block (8 * 2 ^ slice_index v 1) (slice_index v 2 == 1) (slice_index v 3)
+abbrev pub block_contents : List ℕ → CoderPart
+block_contents v = Block (8 * 2 ^ slice_index v 1) (slice_index v 2 == 1) (slice_index v 3)
 
 -- the part of one coder or of the other; `at` is its first bit's position in the file
 abbrev pub coder_by : Bool → ℕ → ImagePart → Part CoderPart
-coder_by true at i = record { fields = block_fields; tests = block_tests at i; says = block_says }
-coder_by false at i = record { fields = sample_fields; tests = sample_tests i; says = sample_says }
+coder_by true at i = record { fields = block_fields; tests = block_tests at i; contents = block_contents }
+coder_by false at i = record { fields = sample_fields; tests = sample_tests i; contents = sample_contents }
 
 unfoldable pub coder : ℕ → ImagePart → Part CoderPart
 coder at i = coder_by i.block at i

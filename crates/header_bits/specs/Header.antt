@@ -24,22 +24,22 @@ use Rattle.header_bits.specs.CoderPart.{coder, coder_fields, coder_numbers}
 use Rattle.header_bits.specs.TableParts.{weight_count, weights, has_constants, constants, table_fields, signed_code}
 
 -- what the parts say, one after another
-abbrev pub Said : Type 0
-Said = (((ImagePart × PredictorPart) × List ℤ) × CoderPart) × List ℕ
+abbrev pub HeaderContents : Type 0
+HeaderContents = (((ImagePart × PredictorPart) × List ℤ) × CoderPart) × List ℕ
 
--- the first bit behind the weight table
+-- the first bit after the weight table
 abbrev pub coder_start : ImagePart → PredictorPart → ℕ
 coder_start i p = 136 + total (weights i p).fields
 
 -- the parts, read in order
-unfoldable pub parts_at : Reading Said
+unfoldable pub parts_at : Reading HeaderContents
 parts_at =
     then_at (then_at (then_at (then_at (part_at image) (λ i. part_at (predictor i))) (λ x. part_at (weights x.0 x.1)))
     (λ x. part_at (coder (coder_start x.0.0 x.0.1) x.0.0)))
     (λ x. part_at (constants (coder_start x.0.0.0 x.0.0.1 + 16) x.0.0.0 x.1))
 
 -- the parts, spelt in order
-abbrev pub SpellsParts : Said → List Bool → Type 0
+abbrev pub SpellsParts : HeaderContents → List Bool → Type 0
 SpellsParts =
     SpellsThen (SpellsThen (SpellsThen (SpellsThen (SpellsPart image) (λ i. SpellsPart (predictor i))) (λ x. SpellsPart (weights x.0 x.1)))
     (λ x. SpellsPart (coder (coder_start x.0.0 x.0.1) x.0.0)))
@@ -57,12 +57,12 @@ abbrev pub coder_by_part : CoderPart → List ℕ → Coder
 coder_by_part (Sample umax gamma_star gamma_zero constant table) values = coding.Sample umax gamma_star gamma_zero (count_by table constant values)
 coder_by_part (Block size restricted reference) values = coding.Block size restricted reference
 
--- what the parts say where the bits from these on hold the tables, if there are any
-abbrev pub said : ImagePart → PredictorPart → List Bool → CoderPart → List Bool → Said
-said i p at_weights c at_constants =
+-- the contents of the parts where the bits from these on hold the tables, if there are any
+abbrev pub header_contents : ImagePart → PredictorPart → List Bool → CoderPart → List Bool → HeaderContents
+header_contents i p at_weights c at_constants =
     let ws = weights i p in
     let ks = constants (coder_start i p + 16) i c in
-    ((((i, p), ws.says (values ws.fields at_weights)), c), ks.says (values ks.fields at_constants))
+    ((((i, p), ws.contents (values ws.fields at_weights)), c), ks.contents (values ks.fields at_constants))
 
 -- the tables that are announced are there, with numbers of a few bits each
 pub record AreThere (i : ImagePart) (p : PredictorPart) (at_weights : List Bool) (c : CoderPart) (at_constants : List Bool) : Type 0 where
@@ -72,8 +72,8 @@ pub record AreThere (i : ImagePart) (p : PredictorPart) (at_weights : List Bool)
   pub weights : p.custom ≡ true → weight_count p.previous p.reduced i.shape.bands * p.resolution ≤ length at_weights
   pub constants : has_constants c ≡ true → i.shape.bands * 4 ≤ length at_constants
 
--- the parameters that the parts say
-abbrev pub params_of : Said → Params
+-- the parameters that the contents of the parts stand for
+abbrev pub params_of : HeaderContents → Params
 params_of s =
     let i = s.0.0.0.0 in
     let p = s.0.0.0.1 in

@@ -38,8 +38,8 @@ image_tests v =
     >> reserved_test 86 10 (slice_index v 12)
 
 -- under band sequential order any bits may stand in the place of the depth
-abbrev pub image_says : List ℕ → ImagePart
-image_says v = record {
+abbrev pub image_contents : List ℕ → ImagePart
+image_contents v = record {
   user = slice_index v 0;
   shape = record { columns = slice_index v 1; rows = slice_index v 2; bands = slice_index v 3 };
   kind = record { signed = slice_index v 4 == 1; bits = slice_index v 6 };
@@ -49,7 +49,7 @@ image_says v = record {
 }
 
 unfoldable pub image : Part ImagePart
-image = record { fields = image_fields; tests = image_tests; says = image_says }
+image = record { fields = image_fields; tests = image_tests; contents = image_contents }
 
 abbrev pub flag : Bool → ℕ
 flag b = if b then 1 else 0

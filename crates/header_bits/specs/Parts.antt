@@ -14,27 +14,27 @@ unfoldable pub reserved_test : ℕ → ℕ → ℕ → Test
 reserved_test at zero value = fine
 reserved_test at (suc n) value = if value / 2 ^ n == 0 then reserved_test (at + 1) n value else Err (Reserved at)
 
--- a row of slots with the tests on their numbers, and what the numbers say
+-- a row of slots with the tests on their numbers, and the contents that the numbers stand for
 pub record Part (X : Type 0) : Type 1 where
   pub fields : List Slot
   pub tests : List ℕ → Test
-  pub says : List ℕ → X
+  pub contents : List ℕ → X
 
 unfoldable pub part_at : {X : Type 0} → Part X → Reading X
 part_at part bits =
     if nat_lt (length bits) (total part.fields) then Err ShortHeader
-    else (part.tests (values part.fields bits) >>= λ _. Ok (part.says (values part.fields bits), drop (total part.fields) bits))
+    else (part.tests (values part.fields bits) >>= λ _. Ok (part.contents (values part.fields bits), drop (total part.fields) bits))
 
--- a part was looked through: it is refused, or what it says is left to be read again
+-- a part was looked through: it is refused, or its contents are left to be read again
 abbrev pub Passes : {X : Type 0} → Part X → Test → List Bool → List Bool → Type 0
-Passes part result old new = Reads (λ _. part.says (values part.fields old)) result new (part_at part old)
+Passes part result old new = Reads (λ _. part.contents (values part.fields old)) result new (part_at part old)
 
--- the bits are numbers in the part's slots that pass its tests and say this
+-- the bits are numbers in the part's slots that pass its tests and stand for these contents
 pub record SpellsPart {X : Type 0} (part : Part X) (x : X) (bits : List Bool) : Type 0 where
   pub numbers : List ℕ
   pub held : AreValues part.fields numbers
   pub passed : part.tests numbers ≡ fine
-  pub said : part.says numbers ≡ x
+  pub contents : part.contents numbers ≡ x
   pub text : bits ≡ spelled part.fields numbers
 
 -- one reading, and then one that depends on what was read

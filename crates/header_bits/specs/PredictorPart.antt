@@ -70,8 +70,8 @@ predictor_tests i v =
     >> reserved_test 105 1 (slice_index v 5)
     >> number_tests i v
 
-abbrev pub predictor_says : List ℕ → PredictorPart
-predictor_says v = record {
+abbrev pub predictor_contents : List ℕ → PredictorPart
+predictor_contents v = record {
   previous = slice_index v 1;
   reduced = slice_index v 2 == 1;
   column = slice_index v 4 == 1;
@@ -85,7 +85,7 @@ predictor_says v = record {
 }
 
 unfoldable pub predictor : ImagePart → Part PredictorPart
-predictor i = record { fields = predictor_fields; tests = predictor_tests i; says = predictor_says }
+predictor i = record { fields = predictor_fields; tests = predictor_tests i; contents = predictor_contents }
 
 -- the numbers that a coder puts into the slots
 abbrev pub predictor_numbers : PredictorPart → List ℕ

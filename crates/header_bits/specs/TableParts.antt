@@ -48,11 +48,11 @@ signed_code bits (negsuc n) = 2 ^ bits - (n + 1)
 -- ---- the weight table, where the predictor part announces it
 
 abbrev pub weights_by : Bool → ℕ → ℕ → Part (List ℤ)
-weights_by false count bits = record { fields = []; tests = λ _. fine; says = λ _. [] }
+weights_by false count bits = record { fields = []; tests = λ _. fine; contents = λ _. [] }
 weights_by true count bits = record {
   fields = table_fields count bits;
   tests = fill_test 136 count bits;
-  says = λ v. map (signed_of bits) (take count v);
+  contents = λ v. map (signed_of bits) (take count v);
 }
 
 unfoldable pub weights : ImagePart → PredictorPart → Part (List ℤ)
@@ -65,11 +65,11 @@ some_above most [] = false
 some_above most (v ∷ vs) = if nat_lt most v then true else some_above most vs
 
 abbrev pub constants_by : Bool → ℕ → ImagePart → Part (List ℕ)
-constants_by false at i = record { fields = []; tests = λ _. fine; says = λ _. [] }
+constants_by false at i = record { fields = []; tests = λ _. fine; contents = λ _. [] }
 constants_by true at i = record {
   fields = table_fields i.shape.bands 4;
   tests = λ v. refuse_if (some_above (i.kind.bits - 2) (take i.shape.bands v)) (Disagree rule.AccumulatorEntry) >> fill_test at i.shape.bands 4 v;
-  says = take i.shape.bands;
+  contents = take i.shape.bands;
 }
 
 abbrev pub has_constants : CoderPart → Bool

@@ -138,7 +138,7 @@ impl<'a> BitReader<'a> {
 
 /// Returns the `n` bits of a word that follow its `highest` highest ones, as a number.
 #[inline(always)]
-pub fn bits_behind(word: u64, highest: u32, n: u32) -> u64
+pub fn bits_after(word: u64, highest: u32, n: u32) -> u64
     requires highest { highest < 64 }
     requires few { n < 64 }
     requires within { highest + n ≤ 64 }

@@ -84,7 +84,7 @@ impl BitWriter {
         }
         let more = (u64::from(self.held) + bits + 7) / 8;
         grow(&mut self.bytes, more as usize)?;
-        self.ready = ready_behind(&self.bytes);
+        self.ready = ready_after(&self.bytes);
         Ok(())
     }
 
@@ -151,7 +151,7 @@ impl BitWriter {
             append_word(&mut self.bytes, word);
             self.part = bits;
             self.held = rest;
-            self.ready = ready_behind(&self.bytes);
+            self.ready = ready_after(&self.bytes);
         }
     }
 
@@ -189,7 +189,7 @@ fn grow(bytes: &mut Vec<u8>, more: usize) -> Result<(), AllocError>
 }
 
 /// Returns 64 where there is memory for two words after these bytes, and 0 where there may be less.
-fn ready_behind(bytes: &Vec<u8>) -> u32
+fn ready_after(bytes: &Vec<u8>) -> u32
     ensures most { result ≤ 64 }
     ensures room { 8 * vec_len bytes.now + 2 * result ≤ 8 * vec_capacity bytes.now }
     ensures within { 0 < result → 8 * vec_len bytes.now + 2 * result ≤ 2 ^ 63 }

@@ -4,7 +4,7 @@ ghost use Rattle.std.specs.Prelude.{◌≡◌, ◌^◌, ◌<◌};
 ghost use Rattle.header_bits.specs.Reading.{Reads};
 ghost use Rattle.header_bits.specs.Layout.{AreValues};
 ghost use Rattle.header_bits.specs.Parts.{part_at};
-ghost use Rattle.header_bits.specs.CoderPart.{coder, sample_fields, sample_tests, sample_says, block_fields, block_tests, block_says, size_code};
+ghost use Rattle.header_bits.specs.CoderPart.{coder, sample_fields, sample_tests, sample_contents, block_fields, block_tests, block_contents, size_code};
 ghost use Rattle.header_bits.specs.TableParts.{has_constants};
 ghost use Rattle.header_bits.specs.Header.{constant_of, is_each, coder_part_of};
 
@@ -55,12 +55,12 @@ impl CoderPart {
             let mut numbers = [0; BLOCK_FIELDS];
             read_values(&block_row!(), reader, &mut numbers);
             test_block(at, image, &numbers)?;
-            Ok(said_block(&numbers))
+            Ok(block_part_of(&numbers))
         } else {
             let mut numbers = [0; SAMPLE_FIELDS];
             read_values(&sample_row!(), reader, &mut numbers);
             test_sample(image, &numbers)?;
-            Ok(said_sample(&numbers))
+            Ok(sample_part_of(&numbers))
         }
     }
 
@@ -143,8 +143,8 @@ fn test_sample(image: &ImagePart, numbers: &[u32; SAMPLE_FIELDS]) -> Result<(), 
 }
 
 /// Returns the coder part that the numbers of the sample-adaptive coder's part stand for.
-fn said_sample(numbers: &[u32; SAMPLE_FIELDS]) -> CoderPart
-    ensures { result ≡ sample_says numbers.now }
+fn sample_part_of(numbers: &[u32; SAMPLE_FIELDS]) -> CoderPart
+    ensures { result ≡ sample_contents numbers.now }
 {
     let [umax, gamma_star, gamma_zero, constant, table] = *numbers;
     CoderPart::Sample {
@@ -169,9 +169,9 @@ fn test_block(at: u64, image: &ImagePart, numbers: &[u32; BLOCK_FIELDS]) -> Resu
 }
 
 /// Returns the coder part that the numbers of the block-adaptive coder's part stand for.
-fn said_block(numbers: &[u32; BLOCK_FIELDS]) -> CoderPart
+fn block_part_of(numbers: &[u32; BLOCK_FIELDS]) -> CoderPart
     requires { AreValues block_fields numbers.now }
-    ensures { result ≡ block_says numbers.now }
+    ensures { result ≡ block_contents numbers.now }
 {
     let [_, size, restricted, reference] = *numbers;
     CoderPart::Block {

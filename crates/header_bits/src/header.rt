@@ -8,7 +8,7 @@ ghost use Rattle.header_bits.specs.Layout.{AreValues, spelled, values};
 ghost use Rattle.header_bits.specs.CoderPart.{coder_fields, coder_numbers};
 ghost use Rattle.header_bits.specs.TableParts.{has_constants, number_fields};
 ghost use Rattle.header_bits.specs.Lawful.{IsLawful};
-ghost use Rattle.header_bits.specs.Header.{header_of, said, AreThere, coder_by_part, params_of, parts_at};
+ghost use Rattle.header_bits.specs.Header.{header_of, header_contents, AreThere, coder_by_part, params_of, parts_at};
 ghost use Rattle.header_bits.specs.Header.{SpellsHeader, ReadsHeader, TakesHeader, BeginsNoHeader};
 
 use crate::bit_reader::BitReader;
@@ -92,7 +92,7 @@ pub fn read_header(alloc: Global, bytes: &[u8]) -> Result<(Params, usize), Fault
 
 /// Takes a header off the bits that a reader has left, and returns its parameters.
 ///
-/// The refusals are those of `read_header`, with positions counted from where the reader stands. After a refusal the reader
+/// The refusals are those of `read_header`, with positions counted from where the reader is. After a refusal the reader
 /// keeps its position.
 pub fn take_header(alloc: Global, reader: &mut BitReader) -> Result<Params, Fault>
     ensures takes { TakesHeader reader.old.left result reader.new.left }
@@ -120,7 +120,7 @@ struct Parts<'a> {
 
 /// Checks a whole header without allocating. Returns the first refusal in the order of the fields.
 fn look_through<'a>(reader: &mut BitReader<'a>) -> Result<Parts<'a>, Fault>
-    ensures reads { Reads (λ x. said x.image x.predictor x.weights.left x.coder x.constants.left) result reader.new.left (parts_at reader.old.left) }
+    ensures reads { Reads (λ x. header_contents x.image x.predictor x.weights.left x.coder x.constants.left) result reader.new.left (parts_at reader.old.left) }
     ensures there { IfOk result (λ x. AreThere x.image x.predictor x.weights.left x.coder x.constants.left) }
 {
     let image = ImagePart::read(reader)?;
@@ -145,7 +145,7 @@ fn look_through<'a>(reader: &mut BitReader<'a>) -> Result<Parts<'a>, Fault>
 /// Returns `WantOfMemory` if a table can't be allocated.
 fn read_params(alloc: Global, parts: Parts) -> Result<Params, Fault>
     requires { AreThere parts.image parts.predictor parts.weights.left parts.coder parts.constants.left }
-    ensures params { IfOk result (λ p. p ≡ params_of (said parts.entry.image parts.entry.predictor parts.entry.weights.left parts.entry.coder
+    ensures params { IfOk result (λ p. p ≡ params_of (header_contents parts.entry.image parts.entry.predictor parts.entry.weights.left parts.entry.coder
         parts.entry.constants.left)) }
     ensures refused { IfErr result (λ e. (e ≡ WantOfMemory) × ((parts.entry.predictor.custom || has_constants parts.entry.coder) ≡ true)) }
 {

@@ -5,7 +5,7 @@ ghost use Rattle.cube_core.specs.declared.order.Order.TheVariants.{Bsq, Bi};
 ghost use Rattle.header_bits.specs.Reading.{Reads};
 ghost use Rattle.header_bits.specs.Layout.{AreValues};
 ghost use Rattle.header_bits.specs.Parts.{fine, part_at};
-ghost use Rattle.header_bits.specs.ImagePart.{image, image_fields, image_tests, image_says, flag, order_flag, depth_number, image_numbers};
+ghost use Rattle.header_bits.specs.ImagePart.{image, image_fields, image_tests, image_contents, flag, order_flag, depth_number, image_numbers};
 ghost use Rattle.header_bits.specs.Header.{image_part_of};
 
 use crate::bit_reader::BitReader;
@@ -41,7 +41,7 @@ impl ImagePart {
         let mut numbers = [0; IMAGE_FIELDS];
         read_values(&image_row!(), reader, &mut numbers);
         test(&numbers)?;
-        Ok(said(&numbers))
+        Ok(part_of(&numbers))
     }
 
     /// The image part of parameters.
@@ -126,10 +126,10 @@ fn test(numbers: &[u32; IMAGE_FIELDS]) -> Result<(), Fault>
 }
 
 /// Returns the image part that the numbers stand for.
-fn said(numbers: &[u32; IMAGE_FIELDS]) -> ImagePart
+fn part_of(numbers: &[u32; IMAGE_FIELDS]) -> ImagePart
     requires held { AreValues image_fields numbers.now }
     requires passed { image_tests numbers.now ≡ fine }
-    ensures { result ≡ image_says numbers.now }
+    ensures { result ≡ image_contents numbers.now }
 {
     let [
         user,

@@ -1,4 +1,4 @@
-//! Bits in and out, the parameters of a coded image, and the header that spells them.
+//! Bits in and out, the parameters of a coded image, and the header that holds them.
 #![tactic(auto)]
 
 pub mod bit_reader;

@@ -6,7 +6,7 @@ ghost use Rattle.header_bits.specs.declared.layout.Slot.TheVariants as slot;
 ghost use Rattle.header_bits.specs.Layout.{AreValues, total, width};
 ghost use Rattle.header_bits.specs.Parts.{part_at, reserved_test};
 ghost use Rattle.header_bits.specs.ImagePart.{flag};
-ghost use Rattle.header_bits.specs.PredictorPart.{predictor, predictor_fields, predictor_tests, number_tests, start_tests, predictor_says, exponent_of};
+ghost use Rattle.header_bits.specs.PredictorPart.{predictor, predictor_fields, predictor_tests, number_tests, start_tests, predictor_contents, exponent_of};
 ghost use Rattle.header_bits.specs.PredictorPart.{exponent_code, predictor_numbers};
 ghost use Rattle.header_bits.specs.Lawful.{IsExponent};
 ghost use Rattle.header_bits.specs.Header.{is_custom, resolution_of, predictor_part_of};
@@ -50,7 +50,7 @@ impl PredictorPart {
         let mut numbers = [0; PREDICTOR_FIELDS];
         read_values(&predictor_row!(), reader, &mut numbers);
         test(image, &numbers)?;
-        Ok(said(&numbers))
+        Ok(part_of(&numbers))
     }
 
     /// The predictor part of parameters.
@@ -187,9 +187,9 @@ fn test_start(numbers: &[u32; PREDICTOR_FIELDS]) -> Result<(), Fault>
 }
 
 /// Returns the predictor part that the numbers stand for.
-fn said(numbers: &[u32; PREDICTOR_FIELDS]) -> PredictorPart
+fn part_of(numbers: &[u32; PREDICTOR_FIELDS]) -> PredictorPart
     requires { AreValues predictor_fields numbers.now }
-    ensures { result ≡ predictor_says numbers.now }
+    ensures { result ≡ predictor_contents numbers.now }
 {
     let [
         _,

@@ -1,4 +1,4 @@
--- A run whose samples are put into an image one behind another.
+-- A run whose samples are put into an image one after another.
 use Rattle.std.proofs.Common.{◌≡◌, ℕ, zero, suc, ◌+◌, ◌-◌, ◌*◌, ◌<◌, ◌≤◌, ℤ, pos, false, true, Bool, List, [], ◌∷◌, ◌++◌, map, length, take, drop, replicate}
 use Rattle.std.proofs.Common.{get_or, add-one, append_assoc, length-append, length-take, refl, sym, ap, ap₂, ◌∙◌, arith, inl, inr, if◌then◌else◌}
 use Rattle.std.proofs.Math.Arith.{digits_lt}
@@ -79,7 +79,7 @@ module _ (q : Predictor) (c d : Image) (z y first n x : ℕ) (place : IsPlace c.
   abbrev lower : List ℤ
   lower = spectral_differences q c z y x (previous_bands q z)
 
-  -- gathered in a room of 18, behind so many components that the caller writes
+  -- gathered in a room of 18, after so many components that the caller writes
   module _ (k count m : ℕ) (components room : List ℤ) (e : count ≡ k + previous_bands q z) (few : count ≤ 18) (le : k ≤ length components)
       (h : drop k components ≡ lower ++ replicate m (pos 0)) (g : room ≡ take 18 (components ++ replicate 18 (pos 0))) where
     heads_long : length (take k components) ≡ k

@@ -103,8 +103,8 @@ middle_between true bits some = (let power = pow_pos (bits - 1) in (omega (arith
 middle_between false bits some =
     (let two = doubled bits (omega arith) in let power = pow_pos (bits - 1) in (omega (arith, ints, power), omega (arith, ints, two, power)))
 
-turned : (a b : ℤ) (n : ℕ) → unsigned_abs (a -ℤ b) ≤ n → unsigned_abs (b -ℤ a) ≤ n
-turned a b n h = omega (arith, ints, h)
+swapped : (a b : ℤ) (n : ℕ) → unsigned_abs (a -ℤ b) ≤ n → unsigned_abs (b -ℤ a) ≤ n
+swapped a b n h = omega (arith, ints, h)
 
 both_small : (a b : ℤ) (n : ℕ) → n ≤ 2 ^ 21 → unsigned_abs a ≤ 18 * (n * 2 ^ 18) → unsigned_abs b ≤ 2 ^ 37 → unsigned_abs (a +ℤ b) < 2 ^ 45
 both_small a b n most h k = omega (arith, ints, h, k)
@@ -128,7 +128,7 @@ module _ (q : Predictor) (c : Image) (z y x : ℕ) (ws : List ℤ) (cube : IsCub
       let power : 2 ^ c.kind.bits ≤ 2 ^ 16 = pow_mono bits in
       let near = apart (smin c.kind) (smax c.kind) (smid c.kind) (local_sum q c z y x) (2 ^ c.kind.bits) (span c.kind cube.bits) middle
       (sum_within q c cube y x later wide z place) in
-      let small = turned (pos 4 *ℤ smid c.kind) (local_sum q c z y x) (2 ^ 18) (omega (arith, near, power)) in
+      let small = swapped (pos 4 *ℤ smid c.kind) (local_sum q c z y x) (2 ^ 18) (omega (arith, near, power)) in
       both_small (inner_product ws (difference_vector q c z y x)) (pos (2 ^ q.omega) *ℤ (local_sum q c z y x -ℤ pos 4 *ℤ smid c.kind)) (2 ^ (q.omega + 2))
       (limit_within q.omega most) products_small (raised_bound q.omega (local_sum q c z y x -ℤ pos 4 *ℤ smid c.kind) most small)
 

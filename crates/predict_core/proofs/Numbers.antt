@@ -9,41 +9,41 @@ use Rattle.sample_prediction.specs.Residual.{mapped_between, theta_between, agre
 use Rattle.sample_prediction.proofs.OneSample.{signed_by, NumberBy, agrees_cases, number_cases}
 use Rattle.sample_prediction.proofs.Floors.{floor_of_sum}
 
--- what both signs take turns for
-turns : (parity : ℕ) (e far turned : ℤ) (sign : Bool) → signed_by parity e sign → far ≡ pos 2 *ℤ e -ℤ pos (parity % 2) → (pos 0 ≤ℤ far → turned ≡ far)
-    → (far ≤ℤ negsuc 0 → turned ≡ negsuc 0 -ℤ far)
-    → ((sign ≡ true) × (turned ≡ pos (2 * unsigned_abs e))) ⊎ ((sign ≡ false) × (turned +ℤ pos 1 ≡ pos (2 * unsigned_abs e)) × (1 ≤ unsigned_abs e))
-turns parity e far turned sign (inl h) f up down = inl (h.0, (let a = h.1 in let b = h.2 in let u = up (omega (arith, ints)) in omega (arith, ints)))
-turns parity e far turned sign (inr (inl h)) f up down =
+-- what alternates between both signs
+alternates : (parity : ℕ) (e far alternating : ℤ) (sign : Bool) → signed_by parity e sign → far ≡ pos 2 *ℤ e -ℤ pos (parity % 2)
+    → (pos 0 ≤ℤ far → alternating ≡ far) → (far ≤ℤ negsuc 0 → alternating ≡ negsuc 0 -ℤ far)
+    → ((sign ≡ true) × (alternating ≡ pos (2 * unsigned_abs e))) ⊎ ((sign ≡ false) × (alternating +ℤ pos 1 ≡ pos (2 * unsigned_abs e)) × (1 ≤ unsigned_abs e))
+alternates parity e far alternating sign (inl h) f up down = inl (h.0, (let a = h.1 in let b = h.2 in let u = up (omega (arith, ints)) in omega (arith, ints)))
+alternates parity e far alternating sign (inr (inl h)) f up down =
     inr (h.0, (let a = h.1 in let b = h.2 in let u = down (omega (arith, ints)) in omega (arith, ints)), (let b = h.2 in omega (arith, ints)))
-turns parity e far turned sign (inr (inr (inl h))) f up down =
+alternates parity e far alternating sign (inr (inr (inl h))) f up down =
     inl (h.0, (let a = h.1 in let b = h.2 in let u = down (omega (arith, ints)) in omega (arith, ints)))
-turns parity e far turned sign (inr (inr (inr h))) f up down =
+alternates parity e far alternating sign (inr (inr (inr h))) f up down =
     inr (h.0, (let a = h.1 in let b = h.2 in let u = up (omega (arith, ints)) in omega (arith, ints)), (let b = h.2 in omega (arith, ints)))
 
-lesser_by : (theta size n : ℕ) (turned : ℤ) (sign : Bool) → ((sign ≡ true) × (turned ≡ pos (2 * size)))
-    ⊎ ((sign ≡ false) × (turned +ℤ pos 1 ≡ pos (2 * size)) × (1 ≤ size)) → NumberBy theta size sign n → int_min turned (pos size +ℤ pos theta) ≡ pos n
-lesser_by theta size n turned sign (inl t) (inl c) = let e = t.1 in let l = c.0 in let m = c.1 in omega (arith, ints, clamps)
-lesser_by theta size n turned sign (inr t) (inl c) = let e = t.1 in let l = c.0 in let m = c.1 in omega (arith, ints, clamps)
-lesser_by theta size n turned sign (inl t) (inr (inl c)) = let e = t.1 in let l = c.0 in let m = c.2 in omega (arith, ints, clamps)
-lesser_by theta size n turned sign (inr t) (inr (inl c)) = absurd (true≢false (sym c.1 ∙ t.0))
-lesser_by theta size n turned sign (inl t) (inr (inr c)) = absurd (true≢false (sym t.0 ∙ c.1))
-lesser_by theta size n turned sign (inr t) (inr (inr c)) = let e = t.1 in let some = t.2 in let l = c.0 in let m = c.2 in omega (arith, ints, clamps)
+lesser_by : (theta size n : ℕ) (alternating : ℤ) (sign : Bool) → ((sign ≡ true) × (alternating ≡ pos (2 * size)))
+    ⊎ ((sign ≡ false) × (alternating +ℤ pos 1 ≡ pos (2 * size)) × (1 ≤ size)) → NumberBy theta size sign n → int_min alternating (pos size +ℤ pos theta) ≡ pos n
+lesser_by theta size n alternating sign (inl t) (inl c) = let e = t.1 in let l = c.0 in let m = c.1 in omega (arith, ints, clamps)
+lesser_by theta size n alternating sign (inr t) (inl c) = let e = t.1 in let l = c.0 in let m = c.1 in omega (arith, ints, clamps)
+lesser_by theta size n alternating sign (inl t) (inr (inl c)) = let e = t.1 in let l = c.0 in let m = c.2 in omega (arith, ints, clamps)
+lesser_by theta size n alternating sign (inr t) (inr (inl c)) = absurd (true≢false (sym c.1 ∙ t.0))
+lesser_by theta size n alternating sign (inl t) (inr (inr c)) = absurd (true≢false (sym t.0 ∙ c.1))
+lesser_by theta size n alternating sign (inr t) (inr (inr c)) = let e = t.1 in let some = t.2 in let l = c.0 in let m = c.2 in omega (arith, ints, clamps)
 
 -- twice the prediction, and the parity
 parts_of : (t : ℤ) → pos 0 ≤ℤ t → t ≡ pos 2 *ℤ floor_div t 2 +ℤ pos (unsigned_abs t % 2)
 parts_of (pos t) h = omega (arith, ints)
 parts_of (negsuc t) h = absurd (omega (arith, ints, h))
 
-pub number_is : (g t h turned : ℤ) → pos 0 ≤ℤ t → (pos 0 ≤ℤ (pos 2 *ℤ h -ℤ t) → turned ≡ pos 2 *ℤ h -ℤ t)
-    → ((pos 2 *ℤ h -ℤ t) ≤ℤ negsuc 0 → turned ≡ negsuc 0 -ℤ (pos 2 *ℤ h -ℤ t))
-    → int_min turned (pos (unsigned_abs (h -ℤ floor_div t 2)) +ℤ pos (theta_between (pos 0) g (floor_div t 2))) ≡ pos (mapped_between (pos 0) g t h)
+pub number_is : (g t h alternating : ℤ) → pos 0 ≤ℤ t → (pos 0 ≤ℤ (pos 2 *ℤ h -ℤ t) → alternating ≡ pos 2 *ℤ h -ℤ t)
+    → ((pos 2 *ℤ h -ℤ t) ≤ℤ negsuc 0 → alternating ≡ negsuc 0 -ℤ (pos 2 *ℤ h -ℤ t))
+    → int_min alternating (pos (unsigned_abs (h -ℤ floor_div t 2)) +ℤ pos (theta_between (pos 0) g (floor_div t 2))) ≡ pos (mapped_between (pos 0) g t h)
 unfolding mapped_between
-number_is g t h turned some up down =
+number_is g t h alternating some up down =
     let p : ℤ = floor_div t 2 in let whole = parts_of t some in
     let far : pos 2 *ℤ h -ℤ t ≡ pos 2 *ℤ (h -ℤ p) -ℤ pos (unsigned_abs t % 2) = omega (arith, ints, whole) in
-    lesser_by (theta_between (pos 0) g p) (unsigned_abs (h -ℤ p)) (mapped_between (pos 0) g t h) turned (agrees t (h -ℤ p))
-    (turns (unsigned_abs t) (h -ℤ p) (pos 2 *ℤ h -ℤ t) turned (agrees t (h -ℤ p)) (agrees_cases t (h -ℤ p) _ refl) far up down)
+    lesser_by (theta_between (pos 0) g p) (unsigned_abs (h -ℤ p)) (mapped_between (pos 0) g t h) alternating (agrees t (h -ℤ p))
+    (alternates (unsigned_abs t) (h -ℤ p) (pos 2 *ℤ h -ℤ t) alternating (agrees t (h -ℤ p)) (agrees_cases t (h -ℤ p) _ refl) far up down)
     (number_cases (theta_between (pos 0) g p) (unsigned_abs (h -ℤ p)) _ (agrees t (h -ℤ p)) refl)
 
 -- ---- offsets in place of samples

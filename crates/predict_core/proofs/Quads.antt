@@ -159,7 +159,7 @@ pub empty_difference : (column : Bool) (current upper : List ℕ) (i : ℕ) → 
 empty_difference true current upper i a b = rw (a, b, zero_at 66 (i + 1)) refl
 empty_difference false current upper i a b = rw (a, b, zero_at 66 i, zero_at 66 (i + 1), zero_at 66 (i + 2)) refl
 
--- a quad behind those that stand
+-- a quad after those that are there
 pub quads_next : (p : Predictor) (c : Image) (z y x first nearest q i : ℕ) (heads : List ℤ) (quads : List Quad) (v : Quad) → first ≤ q → q < length quads
     → components_at q quads i ≡ heads ++ lower_differences p c z y x nearest (4 * (q - first))
     → get_or v.places i [] ≡ lower_differences p c z y x (nearest + 4 * (q - first)) 4

@@ -1,4 +1,4 @@
--- Residuals of a run, one behind another.
+-- Residuals of a run, one after another.
 use Rattle.std.proofs.Common.{◌≡◌, ℕ, zero, suc, ◌+◌, ◌<◌, List, [], ◌∷◌, ◌++◌, map, length, take, get_or, set, arith, refl, sym, ap, ◌∙◌, add-one, inl, inr}
 use Rattle.std.proofs.Common.{get_or-set_same, get_or-set_other}
 use Rattle.std.proofs.Math.Seq.{take-suc-set}

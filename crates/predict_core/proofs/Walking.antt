@@ -66,7 +66,7 @@ along_more p c e i bands q b d lawful all stands at moves follows others-follow 
       come = come_other p.shape p.order z i f.t q lawful before.come stands (λ r. h (sym r));
     }
 
--- behind a tile
+-- after a tile
 module _ {p : Params} {c : Image} {q : Place} {width depth z : ℕ} {f : Learner} (lawful : IsOrder p.shape p.order)
     (is : IsTiled p.shape p.order q width depth) (along : IsAlong p c (place_index p.shape p.order q) z f) where
   -- a band that has no place in it stands where it stood
@@ -94,7 +94,7 @@ gone_count p left = sample_count p.shape - length left
 abbrev pub gone_by : Params → List Place → List Place
 gone_by p left = take (gone_count p left) (places p.shape p.order)
 
--- the places left are the last of the order, and each band follows the image, behind its own of the others
+-- the places left are the last of the order, and each band follows the image, after its own of the others
 pub record IsOnWalk (p : Params) (c : Image) (left : List Place) (bands : List Learner) : Type 0 where
   pub rest : left ≡ drop (gone_count p left) (places p.shape p.order)
   pub many : length bands ≡ p.shape.bands

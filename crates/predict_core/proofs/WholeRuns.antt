@@ -52,7 +52,7 @@ started p made c z y x ws e f = record {
       ∙ ap (weight_vector p c z) (sym (second_place c.shape.columns y x e));
 }
 
--- its residual, and those behind it
+-- its residual, and those after it
 pub with_first : (p : Params) (made : Predictor) (c : Image) (z y x r : ℕ) (rs : List ℕ) → made ≡ predictor_of p → y + x ≡ 0 → x < c.shape.columns
     → 0 < length rs → r ≡ mapped c.kind (first_scaled made c z) (sample_at c z y x)
     → ((i : ℕ) → i < length rs → 0 < i → get_or rs i 0 ≡ mapped_residual p c z (y * c.shape.columns + x + i))

@@ -56,7 +56,7 @@ pub record CanPredict (s : Settings) (c : Image) (y x n : ℕ) (ws : List ℤ) :
   pub inside : x + n ≤ c.shape.columns
   pub weights_in : AllWithin (2 ^ (s.predictor.omega + 2)) ws
 
--- their residuals, and the weights behind them
+-- their residuals, and the weights after them
 pub record HasPredicted (s : Settings) (c : Image) (y x n : ℕ) (old new : List ℤ) (rs : List ℕ) : Type 0 where
   pub bound : (i : ℕ) → i < n → slice_index_or rs i 0 < 2 ^ c.kind.bits
   pub residuals : (p : Params) → AreWeightsAt p s.predictor c s.band (y * c.shape.columns + x) (take s.count old)

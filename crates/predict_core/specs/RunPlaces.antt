@@ -1,4 +1,4 @@
--- Images that differ in a run alone: places of one row, one behind another.
+-- Images that differ in a run alone: places of one row, one after another.
 use Rattle.std.specs.Prelude.{ℕ, ◌≡◌, ◌+◌, ◌≤◌}
 use Rattle.cube_core.specs.Image.{Image, IsPlace, sample_at}
 use Rattle.predict_core.specs.Precedence.{AreAlike}

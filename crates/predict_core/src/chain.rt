@@ -61,14 +61,14 @@ fn follow<const N: usize>(
         steps.omega,
         steps.exponent,
         form_of(steps.bits, steps.exponent),
-        turn_of_error(own, predicted),
+        sign_mask_of_error(own, predicted),
     );
 }
 
 /// Returns all ones where an error is negative, that is, where the central difference is at most the predicted
 /// one; else 0.
 #[inline(always)]
-pub(crate) fn turn_of_error(own: i32, predicted: i32) -> i32
+pub(crate) fn sign_mask_of_error(own: i32, predicted: i32) -> i32
     requires own_in { unsigned_abs own ≤ 2 ^ 18 }
     requires predicted_in { unsigned_abs predicted ≤ 18 * 2 ^ 20 }
     ensures value { int_lt result (pos 0) ≡ int_le own predicted }
@@ -242,7 +242,7 @@ impl RunState {
 /// Writes the predicted central differences of the places `first..last` of a run, and updates the weights; with
 /// `PAIR` also those of the same places of another run, a step of one beside a step of the other.
 ///
-/// What a place of one band waits for tells nothing of another band, so the processor goes over both at once.
+/// No place of one band waits for a place of the other, so the processor works on both at once.
 /// The weights are kept in copies of their own, so that the compiler can keep them in registers.
 #[inline(always)]
 pub(crate) fn follow_places<const Q: usize, const N: usize, const WRAPS: bool, const PAIR: bool>(

@@ -255,14 +255,14 @@ fn sample_by_part(range: &Range, part: i32, sum: u32, delta: u16) -> (i32, i32)
     requires residual { delta < 2 ^ range.now.kind.bits }
     ensures range { IsSample range.now.kind result.0 }
     ensures inverse { mapped range.now.kind (scaled_by_difference range.now.kind part (pos 4 *ℤ smin range.now.kind +ℤ pos sum)) result.0 ≡ delta }
-    ensures turn { int_lt result.1 (pos 0) ≡ int_le (pos 4 *ℤ result.0 -ℤ (pos 4 *ℤ smin range.now.kind +ℤ pos sum)) part }
+    ensures sign { int_lt result.1 (pos 0) ≡ int_le (pos 4 *ℤ result.0 -ℤ (pos 4 *ℤ smin range.now.kind +ℤ pos sum)) part }
     ensures least { negsuc 0 ≤ℤ result.1 }
     ensures most { result.1 ≤ℤ pos 0 }
 {
     let greatest = range.smax - range.smin;
     let center = center_of(part, sum);
-    let (offset, turn) = unmap_by_center(0, greatest, center, delta);
-    (range.smin + offset, turn)
+    let (offset, sign_mask) = unmap_by_center(0, greatest, center, delta);
+    (range.smin + offset, sign_mask)
 }
 
 /// Returns the scaled prediction of an offset before it is clipped.

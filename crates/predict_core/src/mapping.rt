@@ -130,7 +130,7 @@ fn number_at(greatest: i32, twice: i32, offset: i32) -> i32
 {
     let value = prediction_of(twice);
     let beyond = apart(offset, value) + nearer(greatest, value);
-    by_turns(2 * offset - twice).min(beyond)
+    alternating_number(2 * offset - twice).min(beyond)
 }
 
 /// Returns the distance between two offsets.
@@ -157,7 +157,7 @@ fn nearer(greatest: i32, value: i32) -> i32
 
 /// Returns the number of an error where both signs alternate, from twice the error less the parity.
 #[inline(always)]
-fn by_turns(twice: i32) -> i32
+fn alternating_number(twice: i32) -> i32
     requires { unsigned_abs twice ≤ 2 ^ 18 }
     ensures above { pos 0 ≤ℤ twice → result ≡ twice }
     ensures below { twice ≤ℤ negsuc 0 → result ≡ negsuc 0 -ℤ twice }

@@ -28,8 +28,8 @@ impl Band {
     /// holds its mapped residuals until its next piece.
     ///
     /// `count` is at most 64. Both bands have the same parameters, and for each this does what `predict_piece` does.
-    /// What a place waits for is never of another band, so the processor goes over both at once, in less time than
-    /// over one after the other (CCSDS 123.0-B-1, "Predictor").
+    /// No place of one band waits for a place of the other, so the processor works on both at once, in less time than
+    /// on one after the other (CCSDS 123.0-B-1, "Predictor").
     pub fn predict_pieces(&mut self, other: &mut Band, cube: &Cube, y: u32, x: u32, count: usize)
         requires next { IsPieceNext self.old cube.now y x count }
         requires other_next { IsPieceNext other.old cube.now y x count }

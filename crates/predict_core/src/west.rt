@@ -88,8 +88,8 @@ pub(crate) fn sum_with_west(
     (sum + masked(west as i32, settings.west.sum)) as u32
 }
 
-/// Adds the offset to the west to the open components of a place below the first row, in full mode: so its directional
-/// differences stand in front.
+/// Adds the offset to the west to the open components of a place below the first row, in full mode: those of its
+/// directional differences, which come first.
 #[inline(always)]
 pub(crate) fn put_west(
     settings: &Settings,

@@ -78,7 +78,7 @@ as_it_is : {A B : Type 0} (r : Result (A × B) Fault) → r ≡ (r >>= λ x. Ok 
 as_it_is (Ok x) = refl
 as_it_is (Err e) = refl
 
--- numbers behind others
+-- numbers after others
 abbrev pub behind : List ℕ → List ℕ × List Bool → Result (List ℕ × List Bool) Fault
 behind xs read = Ok (xs ++ read.0, read.1)
 
@@ -88,7 +88,7 @@ cons_then : (n : ℕ) (r : Result (List ℕ × List Bool) Fault) (f g : List ℕ
 cons_then n (Ok a) f g same = rw (same a) (then_then (g (n ∷ a.0, a.1)) (behind a.0) (behind (n ∷ [])))
 cons_then n (Err e) f g same = refl
 
--- numbers along places, and along others behind them
+-- numbers along places, and along others after them
 pub words_at_append : (count : ℕ) (c : CoderSettings) (gone : List Place) (before : List ℕ) (ps qs : List Place) (bits : List Bool)
     → words_at count c gone before (ps ++ qs) bits
     ≡ (words_at count c gone before ps bits >>= λ a. words_at count c (gone ++ ps) (before ++ a.0) qs a.1 >>= behind a.0)

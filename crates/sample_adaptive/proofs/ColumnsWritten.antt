@@ -10,7 +10,7 @@ use Rattle.sample_adaptive.specs.Tracked.{statistics_of}
 use Rattle.sample_adaptive.proofs.Taking.{puts_number}
 use Rattle.sample_adaptive.proofs.Tracking.{statistics_count, statistics_set}
 
--- whatever puts the numbers behind the first i, puts the column
+-- whatever puts the numbers after the first i, puts the column
 abbrev pub PutsTo : ℕ → ℕ → ℕ → Counts → List Statistics → List ℕ → List Bool → List Bool → Type 0
 PutsTo z t i v bands numbers written now =
     (new : Counts) (later : List Bool) → PutsColumn (z + i) t (drop i numbers) (record v { bands = bands }) now new later

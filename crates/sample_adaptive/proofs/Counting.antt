@@ -118,7 +118,7 @@ shift_is counter level a b le fits low_counter high_counter low_level high_level
     let product : 2 ^ b ≡ 2 ^ shift * 2 ^ a = ap (λ k. 2 ^ k) (sym same) ∙ pow-add 2 shift a in
     let low = mul-le (2 ^ shift) (2 ^ a) (2 ^ shift) counter (omega arith) low_counter in
     let high = mul-lt-mul_of_pos_left {m = counter} {n = 2 * 2 ^ a} {k = 2 ^ shift} high_counter (pow_pos shift) in
-    let turned : 2 ^ shift * counter ≡ counter * 2 ^ shift = grind arith in
+    let swapped : 2 ^ shift * counter ≡ counter * 2 ^ shift = grind arith in
     let above : 2 ^ shift * (2 * 2 ^ a) ≡ 2 * (2 ^ shift * 2 ^ a) = grind arith in
     record { whole = omega arith; enough = omega arith; close = omega arith }
 

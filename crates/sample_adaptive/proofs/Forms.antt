@@ -62,7 +62,7 @@ zeros_unique (suc a) (suc b) x y e =
     let r = zeros_unique a b x y (tail_of false false (replicate a false ++ true ∷ x) (replicate b false ++ true ∷ y) e) in
     (ap suc r.0, r.1)
 
--- a one comes too early to stand behind so many zeros
+-- a one comes before so many zeros
 pub one_is_early : (a n : ℕ) (x y : List Bool) → a < n → replicate a false ++ true ∷ x ≡ replicate n false ++ y → ⊥
 one_is_early zero zero x y lt e = omega arith
 one_is_early zero (suc n) x y lt e = one_no_zero x (replicate n false ++ y) e

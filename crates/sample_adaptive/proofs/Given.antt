@@ -1,4 +1,4 @@
--- Numbers that were given, and those that are given behind them.
+-- Numbers that were given, and those that are given after them.
 use Rattle.std.proofs.Common.{◌≡◌, ◌+◌, ◌<◌, ℕ, zero, suc, Bool, List, [], ◌∷◌, ◌++◌, length, take, drop, Some, Result, Ok, Err, IfOk, refl, sym, ap, subst}
 use Rattle.std.proofs.Common.{◌∙◌, append_assoc, append-nil, length-append, take-append-drop, add-one, arith}
 use Rattle.std.specs.List.{slice_get}
@@ -41,7 +41,7 @@ unfolding sample_body
 given_whole p v numbers bits h long =
     rw (append-nil, take_all (length numbers) (places p.shape p.order) (omega (arith, long))) at (words_given h.read).text
 
--- ---- what is given behind it
+-- ---- what is given after it
 
 -- what is read at so many places
 gives_more : {X : Type 0} (numbers_of : X → List ℕ) (r : Result X Fault) (p : Params) (old new : Counts) (numbers : List ℕ) (bits : List Bool)
@@ -88,13 +88,13 @@ gives_more numbers_of (Err fault) p old new numbers bits unread left count h kep
     ) refl in
     rw (take-append-drop count behind, take-append-drop (length numbers) (places p.shape p.order)) at bad
 
--- the place of the next number stands first behind those of the numbers before it
+-- the place of the next number comes first after those of the numbers before it
 next_first : (places : List Place) (n : ℕ) (p : Place) (count : ℕ) → slice_get places n ≡ Some p
     → take (suc count) (drop n places) ≡ p ∷ take count (drop (n + 1) places)
 next_first places n p count at =
     ap (take (suc count)) (drop-cons places n p (slice_get_within places _ p at)) ∙ rw (get_or_from_slice_get places _ p p at, add-one) refl
 
--- numbers each of which is the next one, behind those between
+-- numbers each of which is the next one, after those between
 module _ (p : Params) (n count : ℕ) (zs ts : ℕ → ℕ)
     (next : (i : ℕ) (numbers : List ℕ) → i < count → length numbers ≡ n + i → IsNext p numbers (zs i) (ts i)) where
   are_each : (k i : ℕ) (numbers : List ℕ) → i + k ≡ count → length numbers ≡ n + i

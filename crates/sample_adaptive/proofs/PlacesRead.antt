@@ -15,7 +15,7 @@ use Rattle.sample_adaptive.specs.Taken.{Counts, GetsEach, Reaches, code_by, coun
 use Rattle.sample_adaptive.proofs.Running.{later_inside, later_code, later_counted}
 use Rattle.sample_adaptive.proofs.Taking.{taken_along, taken_more, word_there}
 
--- ---- one number, and those behind it
+-- ---- one number, and those after it
 
 pub none : (zs ts : ℕ → ℕ) (i index : ℕ) (v : Counts) (unread : Unread) → GetsEach zs ts i index (Ok tt) v unread v unread.left []
 unfolding words_at

@@ -33,7 +33,7 @@ band_long z (q ∷ qs) places (b ∷ bs) numbers e f h = by_band (eqb q.z z) (ba
     by_band false h = h
 band_long z gone places before numbers e f h = absurd (omega arith)
 
--- ---- words of numbers behind others
+-- ---- words of numbers after others
 
 pub words_append : (c : CoderSettings) (gone : List Place) (before : List ℕ) (ps qs : List Place) (ms ns : List ℕ) → length ms ≡ length ps
     → words_after c gone before (ps ++ qs) (ms ++ ns) ≡ words_after c gone before ps ms ++ words_after c (gone ++ ps) (before ++ ms) qs ns
@@ -59,7 +59,7 @@ unfolding words_after
 body_push c places numbers p n e =
     body_run c places (p ∷ []) numbers (n ∷ []) e ∙ ap (λ (bits : List Bool). sample_body c places numbers ++ bits) (append-nil _)
 
--- ---- runs one behind another
+-- ---- runs one after another
 
 pub run_none : (z t : ℕ) (v : Counts) (written : List Bool) → PutsRun z t [] v written v written
 unfolding words_after
@@ -117,7 +117,7 @@ run_behind z t xs ys old mid new written written_mid written_now first second c 
     ∙ ap (λ (bits : List Bool). written ++ bits) (sym (words_append c gone before (take (length xs) places) (drop (length xs) places) xs ys p.few)) in
     (rw p.whole at text, rw (p.joined, append_assoc before xs ys) at b.1)
 
--- ---- a number behind the first of its band
+-- ---- a number after the first of its band
 
 module _ (z t : ℕ) (v : Counts) (s : Statistics) (lt : z < length v.bands) (some : 0 < t) where
   pub later_inside : z < length (with_band v z s).bands
@@ -145,11 +145,11 @@ run_step z t i number v s next numbers written was now lt some within there text
 pub same_band : (v : Counts) (z : ℕ) (s : Statistics) → s ≡ of_band v.bands z → with_band v z s ≡ v
 same_band v z s e = rw (e, set-get_or) refl
 
--- two words behind what was written
+-- two words after what was written
 pub two_words : (was now a b v w : List Bool) → now ≡ was ++ a ++ b → a ≡ v → b ≡ w → now ≡ was ++ v ++ w
 two_words was now a b v w text e f = text ∙ ap₂ (λ (p q : List Bool). was ++ p ++ q) e f
 
--- a list whose end was written anew, behind its first numbers
+-- a list whose end was written anew, after its first numbers
 pub behind_first : (first rest : List ℕ) (n : ℕ) → n ≤ length first → length rest ≡ length (take (length first - n) (drop n first))
     → put_mid n (length first - n) first rest ≡ take n first ++ rest
 behind_first first rest n within long =

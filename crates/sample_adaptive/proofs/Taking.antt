@@ -126,8 +126,8 @@ pub taken_along : (c : CoderSettings) (v : Counts) (places : List Place) (number
     → HasTaken c v (with_number (λ z. band_numbers z places numbers) p.z number)
     → HasTaken c v (λ z. band_numbers z (places ++ p ∷ []) (numbers ++ number ∷ []))
 taken_along c v places numbers p number len h =
-    let turned : (z : ℕ) → eqb z p.z ≡ eqb p.z z = λ z. grind (arith, nat_tests) in
-    taken_alike c v _ _ (λ z. rw (turned z) (sym (band_push z places numbers p number len))) h
+    let swapped : (z : ℕ) → eqb z p.z ≡ eqb p.z z = λ z. grind (arith, nat_tests) in
+    taken_alike c v _ _ (λ z. rw (swapped z) (sym (band_push z places numbers p number len))) h
 
 -- the word that stands next, by the earlier numbers of its band
 pub word_there : (z t index : ℕ) (old : Counts) (unread : Unread) (r : Result (ℕ × List Bool) Fault) (c : CoderSettings) (gone : List Place)

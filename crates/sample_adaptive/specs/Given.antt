@@ -12,7 +12,7 @@ use Rattle.sample_adaptive.specs.Body.{band_numbers}
 use Rattle.sample_adaptive.specs.Reading.{sample_body_at}
 use Rattle.sample_adaptive.specs.Taken.{Counts, HasTaken}
 
--- bits are read as these numbers along places, whatever bits stand behind them
+-- bits are read as these numbers along places, whatever bits come after them
 abbrev pub AreRead : CoderSettings → List Place → List ℕ → List Bool → Type 0
 AreRead c places numbers bits = (count : ℕ) (left : List Bool) → sample_body_at count c places (bits ++ left) ≡ Ok (numbers, left)
 

@@ -14,34 +14,34 @@ use Rattle.sample_adaptive.specs.Reading.{word_at, sample_body_at}
 abbrev pub AreNumbers : ℕ → List ℕ → Type 0
 AreNumbers bits numbers = AllByRecursion (λ n. n < 2 ^ bits) numbers
 
--- no form begins another
+-- no form is a prefix of another
 abbrev pub OneForm : Type 0
 OneForm = (c : Code) (f g : Form) (x y : List Bool) → IsForm c f → IsForm c g → form_text c f ++ x ≡ form_text c g ++ y → (f ≡ g) × (x ≡ y)
 
--- no code word begins another
+-- no code word is a prefix of another
 abbrev pub OneWord : Type 0
 OneWord = (c : Code) (m n : ℕ) (x y : List Bool) → m < 2 ^ c.bits → n < 2 ^ c.bits → code_word c m ++ x ≡ code_word c n ++ y → (m ≡ n) × (x ≡ y)
 
--- no body of one list of numbers begins a body of another
+-- no body of one list of numbers is a prefix of a body of another
 abbrev pub OneBody : Type 0
 OneBody =
     (c : CoderSettings) (places : List Place) (ms ns : List ℕ) (x y : List Bool)
     → length ms ≡ length places → length ns ≡ length places → AreNumbers c.bits ms → AreNumbers c.bits ns
     → sample_body c places ms ++ x ≡ sample_body c places ns ++ y → (ms ≡ ns) × (x ≡ y)
 
--- a number is read exactly where its code word stands
+-- a number is read exactly where the bits begin with its code word
 abbrev pub WordIsRead : Type 0
 WordIsRead =
     (count index : ℕ) (c : Code) (n : ℕ) (bits rest : List Bool)
     → (n < 2 ^ c.bits → bits ≡ code_word c n ++ rest → word_at count index c bits ≡ Ok (n, rest))
     × (word_at count index c bits ≡ Ok (n, rest) → (n < 2 ^ c.bits) × (bits ≡ code_word c n ++ rest))
 
--- a form stands next
+-- a form comes next
 pub record Begins (c : Code) (f : Form) (bits rest : List Bool) : Type 0 where
   pub form : IsForm c f
   pub text : bits ≡ form_text c f ++ rest
 
--- bits that are said to end too early begin with no form
+-- bits that are refused as truncated begin with no form
 abbrev pub TruncatedIsNoForm : Type 0
 TruncatedIsNoForm =
     (count index : ℕ) (c : Code) (bits : List Bool) → word_at count index c bits ≡ Err (Truncated count)
@@ -53,7 +53,7 @@ BadCodeIsNoWord =
     (count index : ℕ) (c : Code) (bits : List Bool) → word_at count index c bits ≡ Err (BadCode index)
     → (f : Form) × (rest : List Bool) × Begins c f bits rest × ((n : ℕ) → n < 2 ^ c.bits → form_of c n ≡ f → ⊥)
 
--- the numbers of a body are read exactly where the body stands
+-- the numbers of a body are read exactly where the bits begin with the body
 abbrev pub BodyIsRead : Type 0
 BodyIsRead =
     (count : ℕ) (c : CoderSettings) (places : List Place) (ns : List ℕ) (bits rest : List Bool) → length ns ≡ length places

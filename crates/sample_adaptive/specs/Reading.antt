@@ -10,13 +10,13 @@ use Rattle.sample_adaptive.specs.Statistics.{CoderSettings}
 use Rattle.sample_adaptive.specs.Words.{code_at}
 use Rattle.sample_adaptive.specs.Body.{band_numbers}
 
--- the low bits behind so many zeros and a one; a number of more than D bits is refused
+-- the low bits after so many zeros and a one; a number of more than D bits is refused
 unfoldable pub plain_at : ℕ → ℕ → Code → ℕ → Reading ℕ
 plain_at count index c quotient bits = do
   low ← number_at count c.low bits
   if nat_lt (quotient * 2 ^ c.low + low.0) (2 ^ c.bits) then Ok (quotient * 2 ^ c.low + low.0, low.1) else Err (BadCode index)
 
--- the whole number behind the most zeros; one that needs no escape is refused
+-- the whole number after the most zeros; one that needs no escape is refused
 unfoldable pub escape_at : ℕ → ℕ → Code → Reading ℕ
 escape_at count index c bits = do
   number ← number_at count c.bits bits

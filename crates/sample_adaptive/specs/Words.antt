@@ -9,7 +9,7 @@ pub data Form : Type 0 where
   Plain : ℕ → ℕ → Form
   Escape : ℕ → Form
 
--- fewer zeros than the limit, and as many low bits as the code says; or D bits behind the limit's zeros
+-- fewer zeros than the limit, and as many low bits as the code says; or D bits after the limit's zeros
 abbrev pub IsForm : Code → Form → Type 0
 IsForm c (Plain count low) = (count < c.limit) × (low < 2 ^ c.low)
 IsForm c (Escape number) = number < 2 ^ c.bits

@@ -9,7 +9,7 @@ ghost use Rattle.sample_adaptive.specs.Words.{IsCode, code_word};
 ghost use Rattle.sample_adaptive.specs.Reading.{fault_at, word_at};
 
 use cube_core::fault::Fault;
-use header_bits::bit_reader::{BitReader, bits_behind};
+use header_bits::bit_reader::{BitReader, bits_after};
 use header_bits::bit_writer::BitWriter;
 
 /// How the next number is written (CCSDS 123.0-B-1, "Sample-adaptive entropy coder").
@@ -17,7 +17,7 @@ use header_bits::bit_writer::BitWriter;
 pub struct Code {
     /// How many zeros a word has at most: the unary length limit, or 0 for the first number of a band.
     pub limit: u32,
-    /// k, how many low bits stand behind the one.
+    /// k, how many low bits follow the one.
     pub low: u32,
     /// D, how many bits a whole number has.
     pub bits: u32,
@@ -78,7 +78,7 @@ pub(crate) fn push_both(first: Word, second: Word, writer: &mut BitWriter)
     }
 }
 
-/// Reads the number whose code word stands next, and returns it.
+/// Reads the number whose code word comes next, and returns it.
 ///
 /// Returns `BadCode` with the index if the bits are of a code word's form but no number's, and `Truncated` if they end
 /// within one. Then the reader keeps its position.
@@ -121,18 +121,18 @@ pub(crate) fn take_from(
 {
     let zeros = word.leading_zeros();
     if zeros < code.limit {
-        let low = bits_behind(word, zeros + 1, code.low);
+        let low = bits_after(word, zeros + 1, code.low);
         let number = plain(code, index, u64::from(zeros), low)?;
         reader.skip(u64::from(zeros + 1 + code.low));
         Ok(number)
     } else {
-        let number = escaped(code, index, bits_behind(word, code.limit, code.bits))?;
+        let number = escaped(code, index, bits_after(word, code.limit, code.bits))?;
         reader.skip(u64::from(code.limit + code.bits));
         Ok(number)
     }
 }
 
-/// Reads the number whose code word stands next, part by part, since fewer than 57 bits may be left.
+/// Reads the number whose code word comes next, part by part, since fewer than 57 bits may be left.
 ///
 /// After a refusal the reader's position is unspecified.
 #[inline(never)]

@@ -17,10 +17,10 @@ use cube_core::fault::Fault;
 use header_bits::bit_reader::BitReader;
 
 impl Stats {
-    /// Reads number `t` of band `z`, then that of the next band, and so on, whose code words stand next, into `numbers`,
+    /// Reads number `t` of band `z`, then that of the next band, and so on, whose code words come next, into `numbers`,
     /// and updates the bands' statistics.
     ///
-    /// `t` counts each band's numbers from 0, and the first number stands at `index` in encoding order. At most
+    /// `t` counts each band's numbers from 0, and the first number is at `index` in encoding order. At most
     /// 65,536 numbers are read. Where a number is refused, it returns the fault that `get` returns, but `BadCode` has the
     /// number's index in encoding order. Then the reader keeps its position, every later call returns the same, and the
     /// statistics and what is in `numbers` are unspecified.
@@ -69,7 +69,7 @@ impl Stats {
     }
 }
 
-/// Reads one number of each band from band `z` on, whose code words stand next, and updates what is kept of them.
+/// Reads one number of each band from band `z` on, whose code words come next, and updates what is kept of them.
 ///
 /// After a refusal the reader's position and what is kept are unspecified.
 #[inline(always)]
@@ -213,7 +213,7 @@ fn take_each(
     Ok(())
 }
 
-/// Reads a band's number, whose code word stands next, and updates what is kept of the band unless the number is its first.
+/// Reads a band's number, whose code word comes next, and updates what is kept of the band unless the number is its first.
 #[inline(always)]
 pub(crate) fn take_number(
     run: RunCodes,

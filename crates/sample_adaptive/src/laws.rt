@@ -3,37 +3,37 @@
 ghost use Rattle.sample_adaptive.specs.Laws.{OneForm, OneWord, OneBody, WordIsRead, TruncatedIsNoForm, BadCodeIsNoWord, BodyIsRead, AccumulatorBound};
 ghost use Rattle.sample_adaptive.specs.Laws.{ParameterIsGreatest};
 
-/// No form begins another.
+/// No form of a code word is a prefix of another.
 pub fn one_form()
     ensures { OneForm }
 {}
 
-/// No code word begins another.
+/// No code word is a prefix of another.
 pub fn one_word()
     ensures { OneWord }
 {}
 
-/// No body of one list of numbers begins a body of another.
+/// No body of one list of numbers is a prefix of a body of another.
 pub fn one_body()
     ensures { OneBody }
 {}
 
-/// A number is read exactly where its code word stands.
+/// A number is read exactly where the bits begin with its code word.
 pub fn word_is_read()
     ensures { WordIsRead }
 {}
 
-/// Bits that are said to end too early begin with no form.
+/// Bits that are refused as `Truncated` begin with no form of a code word.
 pub fn truncated_is_no_form()
     ensures { TruncatedIsNoForm }
 {}
 
-/// Bits that are said to be a bad code begin with a form that no number has.
+/// Bits that are refused as `BadCode` begin with a form of a code word that no number has.
 pub fn bad_code_is_no_word()
     ensures { BadCodeIsNoWord }
 {}
 
-/// The numbers of a body are read exactly where the body stands.
+/// The numbers of a body are read exactly where the bits begin with the body.
 pub fn body_is_read()
     ensures { BodyIsRead }
 {}

@@ -99,7 +99,7 @@ pub(crate) fn make_room(words: usize, writer: &mut BitWriter) -> Result<(), Faul
     writer.reserve(MOST_BITS * words as u64)
 }
 
-/// Reads numbers `t`, `t + 1`, .. of a band, whose code words stand next, and updates what is kept of it.
+/// Reads numbers `t`, `t + 1`, .. of a band, whose code words come next, and updates what is kept of it.
 ///
 /// After a refusal the reader's position and what is kept are unspecified.
 #[inline(always)]

@@ -11,9 +11,9 @@ use cube_core::fault::Fault;
 use header_bits::bit_reader::BitReader;
 
 impl Stats {
-    /// Reads number `t` of band `z`, whose code word stands next, returns it, and updates the band's statistics.
+    /// Reads number `t` of band `z`, whose code word comes next, returns it, and updates the band's statistics.
     ///
-    /// `t` counts the band's numbers from 0. Where no code word stands next, it returns `BadCode` with `t` as the place
+    /// `t` counts the band's numbers from 0. Where no code word comes next, it returns `BadCode` with `t` as the place
     /// if the bits are of a code word's form but no number's (a needless escape, or a number above 2^D - 1), and
     /// `Truncated` otherwise. Then the reader keeps its position, every later call returns the same, and nothing else
     /// was changed.

@@ -155,10 +155,10 @@ impl Stats {
         self.bands[z as usize] = replace_with(writer, run, put_words);
     }
 
-    /// Reads numbers `t`, `t + 1`, .. of band `z`, whose code words stand next, into `numbers`, and updates the band's
+    /// Reads numbers `t`, `t + 1`, .. of band `z`, whose code words come next, into `numbers`, and updates the band's
     /// statistics.
     ///
-    /// `t` counts the band's numbers from 0, and the first stands at `index` in encoding order. The run is within
+    /// `t` counts the band's numbers from 0, and the first is at `index` in encoding order. The run is within
     /// a row, so it has at most 65,536 numbers. Where a number is refused, it returns the fault that `get` returns, but
     /// `BadCode` has the number's index in encoding order. Then the reader keeps its position, every later call returns
     /// the same, nothing else was changed, and what is in `numbers` is unspecified.

@@ -8,12 +8,12 @@ ghost use Rattle.sample_adaptive.specs.Body.{sample_body};
 ghost use Rattle.header_bits.specs.Rows.{filled_up};
 ghost use Rattle.sample_adaptive.specs.Rows.{common, of_bits, short_limit, rescaling, with_table, bands_apart, bands_in_groups};
 
-/// The first number of a band stands in D bits.
+/// The first number of a band is written in D bits.
 pub fn one_sample()
     ensures { filled_up (sample_body common (bands_apart 1 1 1) (144 ∷ [])) ≡ bits_of_bytes (0x90 ∷ []) }
 {}
 
-/// A number behind the first one has its code word: a one and three low bits.
+/// A number after the first one has a code word: a one and three low bits.
 pub fn two_equal_samples()
     ensures { filled_up (sample_body common (bands_apart 1 2 1) (144 ∷ 0 ∷ [])) ≡ bits_of_bytes (0x90 ∷ 0x80 ∷ []) }
 {}
@@ -43,7 +43,7 @@ pub fn signed_sixteen_bits()
     ensures { filled_up (sample_body (of_bits 16) (bands_apart 1 1 1) (65535 ∷ [])) ≡ bits_of_bytes (0xFF ∷ 0xFF ∷ []) }
 {}
 
-/// Behind as many zeros as the unary length limit the number stands whole.
+/// After as many zeros as the unary length limit comes the whole number.
 pub fn escape()
     ensures { filled_up (sample_body (short_limit 8) (bands_apart 1 2 1) (144 ∷ 19 ∷ [])) ≡ bits_of_bytes (0x90 ∷ 0x00 ∷ 0x13 ∷ []) }
 {}
@@ -77,7 +77,7 @@ pub fn wide_register()
     ensures { filled_up (sample_body (of_bits 11) (bands_apart 1 2 2) (2039 ∷ 8 ∷ 7 ∷ 0 ∷ [])) ≡ bits_of_bytes (0xFE ∷ 0xE8 ∷ 0x00 ∷ 0xF0 ∷ []) }
 {}
 
-/// Numbers behind a table of weights.
+/// Numbers after a table of weights.
 pub fn weight_table()
     ensures { filled_up (sample_body common (bands_apart 1 2 2) (55 ∷ 19 ∷ 99 ∷ 30 ∷ [])) ≡ bits_of_bytes (0x37 ∷ 0x2D ∷ 0x8C ∷ 0x70 ∷ []) }
 {}
@@ -126,7 +126,7 @@ pub fn weights_clipped_from_above()
         ≡ bits_of_bytes (0x38 ∷ 0x03 ∷ 0xDB ∷ 0x4C ∷ 0x17 ∷ 0x30 ∷ []) }
 {}
 
-/// A number of 0 behind an escape.
+/// A number of 0 after an escape.
 pub fn greatest_prediction()
     ensures { filled_up (sample_body common (bands_apart 1 3 2) (97 ∷ 255 ∷ 182 ∷ 228 ∷ 0 ∷ 149 ∷ [])) ≡ bits_of_bytes (0x61 ∷ 0x00 ∷ 0x00 ∷ 0xFF ∷ 0x3B ∷ 0x72
         ∷ 0x40 ∷ 0x00 ∷ 0x04 ∷ 0xA8 ∷ []) }

@@ -6,7 +6,7 @@ ghost use Rattle.header_bits.specs.Bits.{bits_of, bits_of_bytes};
 ghost use Rattle.sample_adaptive.specs.Reading.{sample_body_fault};
 ghost use Rattle.sample_adaptive.specs.Rows.{common, short_limit, bands_apart, bands_in_groups};
 
-/// 3 in D bits behind eight zeros: three zeros and a one spell it.
+/// 3 in D bits after eight zeros: its code word is three zeros and a one.
 pub fn needless_escape()
     ensures { sample_body_fault 176 (short_limit 8) (bands_apart 1 2 1) (bits_of_bytes (0x90 ∷ 0x00 ∷ 0x03 ∷ [])) ≡ Some (BadCode 1) }
 {}
@@ -16,12 +16,12 @@ pub fn last_byte_gone()
     ensures { sample_body_fault 160 common (bands_apart 1 2 1) (bits_of_bytes (0x90 ∷ [])) ≡ Some (Truncated 160) }
 {}
 
-/// Four zeros and a one spell 4, which two bits do not hold.
+/// Four zeros and a one are the code word of 4, which two bits do not hold.
 pub fn number_above_the_greatest()
     ensures { sample_body_fault 7 (short_limit 2) (bands_apart 1 2 1) (bits_of 2 0 ++ bits_of 5 1) ≡ Some (BadCode 1) }
 {}
 
-/// 3 behind eight zeros: three zeros and a one spell it.
+/// 3 after eight zeros: its code word is three zeros and a one.
 pub fn needless_escape_of_two_bits()
     ensures { sample_body_fault 12 (short_limit 2) (bands_apart 1 2 1) (bits_of 2 0 ++ bits_of 10 3) ≡ Some (BadCode 1) }
 {}

@@ -132,4 +132,4 @@ sum_below product distance limit n top some small fits =
     let e = times_sum n (floor_div product n) distance in let size = times_size n (floor_div product n +ℤ distance) in
     let room : n * (unsigned_abs (floor_div product n +ℤ distance) + 1) ≤ n * limit = mul-le-mul_left n (omega (arith, small)) in
     let split : n * (unsigned_abs (floor_div product n +ℤ distance) + 1) ≡ n * unsigned_abs (floor_div product n +ℤ distance) + n = omega arith in
-    let turn : n * limit ≡ limit * n = mul_comm n limit in omega (arith, ints, under, over, e, size, room, split, turn, fits)
+    let swapped : n * limit ≡ limit * n = mul_comm n limit in omega (arith, ints, under, over, e, size, room, split, swapped, fits)

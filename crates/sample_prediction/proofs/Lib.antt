@@ -13,7 +13,7 @@ pub mod Scaled
 pub mod Spans
 pub mod Starting
 pub mod Tables
-pub mod Turns
+pub mod SignMasks
 pub mod Raising
 pub mod Floors
 pub mod BandLines

@@ -30,8 +30,8 @@ module _ (low high scaled predicted : ℤ) (n : ℕ) (half : predicted ≡ floor
   pub odd_sample : (n + unsigned_abs scaled) % 2 ≢ 0 → predicted -ℤ pos ((n + 1) / 2) ≡ unmapped_between low high scaled n
   odd_sample e = unmapped_is low high scaled predicted _ _ _ _ n half refl refl refl (odd_error _ _ _ n near e)
 
-  pub even_turn : (n + unsigned_abs scaled) % 2 ≡ 0 → false ≡ int_lt (pos 2 *ℤ unmapped_between low high scaled n -ℤ scaled) (pos 0)
-  even_turn e = let w = with_parity scaled predicted half in let s = even_sample e in grind (arith, ints, w, s, e)
+  pub even_sign : (n + unsigned_abs scaled) % 2 ≡ 0 → false ≡ int_lt (pos 2 *ℤ unmapped_between low high scaled n -ℤ scaled) (pos 0)
+  even_sign e = let w = with_parity scaled predicted half in let s = even_sample e in grind (arith, ints, w, s, e)
 
-  pub odd_turn : (n + unsigned_abs scaled) % 2 ≢ 0 → true ≡ int_lt (pos 2 *ℤ unmapped_between low high scaled n -ℤ scaled) (pos 0)
-  odd_turn e = let w = with_parity scaled predicted half in let s = odd_sample e in grind (arith, ints, w, s, e)
+  pub odd_sign : (n + unsigned_abs scaled) % 2 ≢ 0 → true ≡ int_lt (pos 2 *ℤ unmapped_between low high scaled n -ℤ scaled) (pos 0)
+  odd_sign e = let w = with_parity scaled predicted half in let s = odd_sample e in grind (arith, ints, w, s, e)

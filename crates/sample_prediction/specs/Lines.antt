@@ -38,7 +38,7 @@ bordered_above column above =
     if column then bordered (slice_index above 0) above (slice_index above 0)
     else bordered (slice_index above 1) above (slice_index above (length above - 1))
 
--- two lines tell the neighbours of the places from column x on: place i stands behind one that is west of it
+-- two lines tell the neighbours of the places from column x on: place i comes after one that is west of it
 pub record AreLines (column : Bool) (y : ℕ) (row above : List ℕ) (x count : ℕ) (current upper : List ℕ) : Type 0 where
   pub own : (i : ℕ) → i < count → slice_index current (i + 1) ≡ slice_index row (x + i)
   pub west : (i : ℕ) → i < count → 0 < x + i → slice_index current i ≡ slice_index row (x + i - 1)

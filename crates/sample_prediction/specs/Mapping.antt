@@ -1,4 +1,4 @@
--- The mapping of samples to numbers, turned round (CCSDS 123.0-B-1, "Mapped Prediction Residual").
+-- The mapping of samples to numbers, inverted (CCSDS 123.0-B-1, "Mapped Prediction Residual").
 use Rattle.std.specs.Prelude.{ℕ, ◌≡◌, ◌+◌, ◌-◌, ◌*◌, ◌/◌, ◌%◌, ◌^◌, ◌<◌, ◌==◌, nat_lt, ℤ, pos, neg_ℤ, ◌+ℤ◌, ◌-ℤ◌, ◌*ℤ◌, ◌≤ℤ◌, unsigned_abs, if◌then◌else◌}
 use Rattle.cube_core.specs.Kind.{SampleKind, IsKind, IsSample, smin, smax}
 use Rattle.sample_prediction.specs.Arithmetic.{floor_div}

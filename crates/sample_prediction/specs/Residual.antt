@@ -15,7 +15,7 @@ theta_between low high predicted = min (unsigned_abs (predicted -ℤ low)) (unsi
 abbrev pub agrees : ℤ → ℤ → Bool
 agrees scaled error = if unsigned_abs scaled % 2 == 0 then int_le (pos 0) error else int_le error (pos 0)
 
--- the number that an error is mapped to: up to θ both signs take turns, and beyond it each size has one
+-- the number that an error is mapped to: up to θ both signs alternate, and beyond it each size has one
 abbrev pub number_of : ℕ → ℕ → Bool → ℕ
 number_of theta size agreeing = if nat_lt theta size then size + theta else if agreeing then 2 * size else 2 * size - 1
 

@@ -67,12 +67,12 @@ pub fn places_alike(predictor: &Predictor, columns: u32, t: u64, most: usize) ->
     if t < behind {
         (behind - t).min(most as u64) as usize
     } else {
-        alike_behind(predictor, t - behind, most)
+        alike_after(predictor, t - behind, most)
     }
 }
 
 /// Does the same, for `t` counted from the second row.
-fn alike_behind(predictor: &Predictor, t: u64, most: usize) -> usize
+fn alike_after(predictor: &Predictor, t: u64, most: usize) -> usize
     requires lawful { IsPredictor predictor.now }
     requires t_in { t < 2 ^ 32 }
     requires some { 1 ≤ most }

@@ -110,7 +110,7 @@ fn may_wrap<const WRAPS: bool>(
     WRAPS && register_limit(predictor) <= upper.unsigned_abs()
 }
 
-/// Returns a power of two that fits in the register with the weights' fraction behind it, of either sign.
+/// Returns a power of two that fits in the register above the weights' fraction, of either sign.
 #[inline(always)]
 fn register_limit(predictor: &Predictor) -> u32
     requires { IsPredictor predictor.now }

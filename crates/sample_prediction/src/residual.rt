@@ -77,7 +77,7 @@ pub fn unmap_between(low: i32, high: i32, scaled: i32, delta: u16) -> i32
 ///
 /// Parities tell it before the sample is found.
 #[inline(always)]
-fn turn_between(low: i32, high: i32, scaled: i32, delta: u16) -> i32
+fn sign_mask_between(low: i32, high: i32, scaled: i32, delta: u16) -> i32
     requires low_in { negsuc 32767 ≤ℤ low }
     requires high_in { high ≤ℤ (low +ℤ pos 65535) }
     requires high_top { high ≤ℤ pos 65535 }
@@ -90,7 +90,7 @@ fn turn_between(low: i32, high: i32, scaled: i32, delta: u16) -> i32
     let predicted = prediction_of(scaled);
     let theta = theta_of(low, high, predicted);
     let below = span_of(low, predicted);
-    turn_of_number(theta, below, scaled.unsigned_abs(), delta as u32)
+    sign_mask_of_number(theta, below, scaled.unsigned_abs(), delta as u32)
 }
 
 /// Returns both: the sample of the mapped residual `delta`, and all ones where it is less than its prediction, else 0.
@@ -108,7 +108,7 @@ pub fn unmap_by_center(low: i32, high: i32, center: i32, delta: u16) -> (i32, i3
     ensures value { result.0 ≡ unmapped_between low high (clip center (pos 2 *ℤ low) (pos 2 *ℤ high +ℤ pos 1)) delta }
     ensures range { Between low high result.0 }
     ensures inverse { mapped_between low high (clip center (pos 2 *ℤ low) (pos 2 *ℤ high +ℤ pos 1)) result.0 ≡ delta }
-    ensures turn { int_lt result.1 (pos 0) ≡ int_lt (pos 2 *ℤ result.0 -ℤ clip center (pos 2 *ℤ low) (pos 2 *ℤ high +ℤ pos 1)) (pos 0) }
+    ensures sign { int_lt result.1 (pos 0) ≡ int_lt (pos 2 *ℤ result.0 -ℤ clip center (pos 2 *ℤ low) (pos 2 *ℤ high +ℤ pos 1)) (pos 0) }
     ensures least { negsuc 0 ≤ℤ result.1 }
     ensures most { result.1 ≤ℤ pos 0 }
 {
@@ -138,8 +138,8 @@ fn clipped(low: i32, high: i32, center: i32) -> i32
     center.min(2 * high + 1).max(2 * low)
 }
 
-/// Returns the sample of a mapped residual by its scaled prediction, wherever in the range it is, and the turn of its
-/// error.
+/// Returns the sample of a mapped residual by its scaled prediction, wherever in the range it is, and all ones
+/// where it is less than its prediction, else 0.
 #[cold]
 fn unmap_far(low: i32, high: i32, scaled: i32, delta: u16) -> (i32, i32)
     requires low_in { negsuc 32767 ≤ℤ low }
@@ -151,12 +151,12 @@ fn unmap_far(low: i32, high: i32, scaled: i32, delta: u16) -> (i32, i32)
     ensures value { result.0 ≡ unmapped_between low high scaled delta }
     ensures range { Between low high result.0 }
     ensures inverse { mapped_between low high scaled result.0 ≡ delta }
-    ensures turn { int_lt result.1 (pos 0) ≡ int_lt (pos 2 *ℤ unmapped_between low high scaled delta -ℤ scaled) (pos 0) }
+    ensures sign { int_lt result.1 (pos 0) ≡ int_lt (pos 2 *ℤ unmapped_between low high scaled delta -ℤ scaled) (pos 0) }
     ensures least { negsuc 0 ≤ℤ result.1 }
     ensures most { result.1 ≤ℤ pos 0 }
 {
     let sample = unmap_between(low, high, scaled, delta);
-    (sample, turn_between(low, high, scaled, delta))
+    (sample, sign_mask_between(low, high, scaled, delta))
 }
 
 /// Returns half of a scaled prediction, rounded down.
@@ -253,7 +253,7 @@ fn unmap_error(theta: u32, below: u32, parity: u32, number: u32) -> i32
 ///
 /// `below` and `parity` are as for [`unmap_error`].
 #[inline(always)]
-fn turn_of_number(theta: u32, below: u32, parity: u32, number: u32) -> i32
+fn sign_mask_of_number(theta: u32, below: u32, parity: u32, number: u32) -> i32
     requires theta_in { theta ≤ 65535 }
     requires number_in { number ≤ 65535 }
     requires parity_in { parity ≤ 131072 }

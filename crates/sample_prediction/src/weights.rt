@@ -85,15 +85,15 @@ pub fn update(
     if count == 0 {
         return;
     }
-    let turn = turn_of(negative);
+    let sign_mask = sign_mask_of(negative);
     if count <= 8 {
-        update_first::<8>(weights, differences, omega, bits, exponent, turn);
+        update_first::<8>(weights, differences, omega, bits, exponent, sign_mask);
     } else {
-        update_first::<MOST_COMPONENTS>(weights, differences, omega, bits, exponent, turn);
+        update_first::<MOST_COMPONENTS>(weights, differences, omega, bits, exponent, sign_mask);
     }
 }
 
-/// Updates the first `N` weights. `turn` is all ones where the error is negative, and 0 otherwise.
+/// Updates the first `N` weights. `sign_mask` is all ones where the error is negative, and 0 otherwise.
 ///
 /// A difference takes the error's sign without a branch, so that the compiler vectorizes the loop.
 #[inline(always)]
@@ -103,25 +103,25 @@ fn update_first<const N: usize>(
     omega: u32,
     bits: u32,
     exponent: i32,
-    turn: i32,
+    sign_mask: i32,
 )
     requires few { N ≤ 18 }
-    requires turn_in { (negsuc 0 ≤ℤ turn) × (turn ≤ℤ pos 0) }
+    requires sign_mask_in { (negsuc 0 ≤ℤ sign_mask) × (sign_mask ≤ℤ pos 0) }
     requires omega_in { omega ≤ 19 }
     requires bits_in { (2 ≤ bits) × (bits ≤ 16) }
     requires exponent_least { (pos bits -ℤ pos 25) ≤ℤ exponent }
     requires exponent_most { exponent ≤ℤ pos 21 }
     requires weights_in { AllWithin (2 ^ (omega + 2)) weights.old }
     requires differences_in { AllWithin (4 * 2 ^ bits) differences.now }
-    ensures value { take N weights.new ≡ updated_weights omega exponent (int_lt turn (pos 0)) (take N weights.old) (take N differences.now) }
+    ensures value { take N weights.new ≡ updated_weights omega exponent (int_lt sign_mask (pos 0)) (take N weights.old) (take N differences.now) }
     ensures bound { AllWithin (2 ^ (omega + 2)) weights.new }
 {
     if exponent < 0 {
         let form = raising((-1 - exponent) as u32);
-        update_by::<N>(weights, differences, omega, exponent, form, turn);
+        update_by::<N>(weights, differences, omega, exponent, form, sign_mask);
     } else {
         let form = halving(exponent as u32);
-        update_by::<N>(weights, differences, omega, exponent, form, turn);
+        update_by::<N>(weights, differences, omega, exponent, form, sign_mask);
     }
 }
 
@@ -199,42 +199,42 @@ pub fn update_by<const N: usize>(
     omega: u32,
     exponent: i32,
     form: Form,
-    turn: i32,
+    sign_mask: i32,
 )
     requires few { N ≤ 18 }
-    requires turn_in { (negsuc 0 ≤ℤ turn) × (turn ≤ℤ pos 0) }
+    requires sign_mask_in { (negsuc 0 ≤ℤ sign_mask) × (sign_mask ≤ℤ pos 0) }
     requires omega_in { omega ≤ 19 }
     requires steps { (a : ℤ) → floor_div (a *ℤ pos (2 ^ form.up) +ℤ form.half) (2 ^ form.down) ≡ step exponent a }
     requires weights_in { AllWithin (2 ^ (omega + 2)) weights.old }
     requires differences_in { AllWithin (2 ^ (26 - form.up)) differences.now }
-    ensures value { take N weights.new ≡ updated_weights omega exponent (int_lt turn (pos 0)) (take N weights.old) (take N differences.now) }
+    ensures value { take N weights.new ≡ updated_weights omega exponent (int_lt sign_mask (pos 0)) (take N weights.old) (take N differences.now) }
     ensures bound { AllWithin (2 ^ (omega + 2)) weights.new }
 {
     for i in 0..N {
-        weights[i] = moved(omega, exponent, form, turn, weights[i], differences[i]);
+        weights[i] = moved(omega, exponent, form, sign_mask, weights[i], differences[i]);
     }
 }
 
 /// Returns one weight after an error.
 #[inline(always)]
-fn moved(omega: u32, exponent: i32, form: Form, turn: i32, weight: i32, difference: i32) -> i32
-    requires turn_in { (negsuc 0 ≤ℤ turn) × (turn ≤ℤ pos 0) }
+fn moved(omega: u32, exponent: i32, form: Form, sign_mask: i32, weight: i32, difference: i32) -> i32
+    requires sign_mask_in { (negsuc 0 ≤ℤ sign_mask) × (sign_mask ≤ℤ pos 0) }
     requires omega_in { omega ≤ 19 }
     requires steps { (a : ℤ) → floor_div (a *ℤ pos (2 ^ form.up) +ℤ form.half) (2 ^ form.down) ≡ step exponent a }
     requires weight_in { unsigned_abs weight ≤ 2 ^ 21 }
     requires difference_in { unsigned_abs difference ≤ 2 ^ (26 - form.up) }
-    ensures value { result ≡ updated omega exponent (int_lt turn (pos 0)) weight difference }
+    ensures value { result ≡ updated omega exponent (int_lt sign_mask (pos 0)) weight difference }
     ensures bound { unsigned_abs result ≤ 2 ^ (omega + 2) }
 {
     // Both are found while the error isn't known yet: the next prediction waits for the choice alone.
     let raised = clip_weight(omega, weight, stepped(form, difference));
     let lowered = clip_weight(omega, weight, stepped(form, -difference));
-    chosen(turn, raised, lowered)
+    chosen(sign_mask, raised, lowered)
 }
 
 /// Returns the word of a sign: all ones where an error is negative, else 0.
 #[inline(always)]
-fn turn_of(negative: bool) -> i32
+fn sign_mask_of(negative: bool) -> i32
     ensures value { int_lt result (pos 0) ≡ negative }
     ensures low { negsuc 0 ≤ℤ result }
     ensures high { result ≤ℤ pos 0 }
@@ -242,15 +242,15 @@ fn turn_of(negative: bool) -> i32
     if negative { -1 } else { 0 }
 }
 
-/// Returns the second weight where `turn` is all ones, and the first where it is 0.
+/// Returns the second weight where `sign_mask` is all ones, and the first where it is 0.
 #[inline(always)]
-fn chosen(turn: i32, raised: i32, lowered: i32) -> i32
-    requires turn_in { (negsuc 0 ≤ℤ turn) × (turn ≤ℤ pos 0) }
+fn chosen(sign_mask: i32, raised: i32, lowered: i32) -> i32
+    requires sign_mask_in { (negsuc 0 ≤ℤ sign_mask) × (sign_mask ≤ℤ pos 0) }
     requires raised_in { unsigned_abs raised ≤ 2 ^ 21 }
     requires lowered_in { unsigned_abs lowered ≤ 2 ^ 21 }
-    ensures { result ≡ (if int_lt turn (pos 0) then lowered else raised) }
+    ensures { result ≡ (if int_lt sign_mask (pos 0) then lowered else raised) }
 {
-    raised + ((lowered - raised) & turn)
+    raised + ((lowered - raised) & sign_mask)
 }
 
 /// Returns the step for a size.

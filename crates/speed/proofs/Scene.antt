@@ -124,7 +124,7 @@ checksum_more c z y x row cube place offsets =
     ∙ sym (fold_more mixed 0 (offsets_of c) (index_in c.shape.columns c.shape.rows z y x) 0 lt)
     ∙ ap (λ (n : ℕ). checksum (take n (offsets_of c))) next
 
--- a row is behind, and so is a band
+-- a row is done, and so is a band
 pub row_behind : (c : Image) (z y : ℕ) → checksum_before c z y c.shape.columns ≡ checksum_before c z (y + 1) 0
 row_behind c z y =
     let next : index_in c.shape.columns c.shape.rows z y c.shape.columns ≡ index_in c.shape.columns c.shape.rows z (y + 1) 0 = omega arith in

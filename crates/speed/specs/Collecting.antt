@@ -1,4 +1,4 @@
--- What collects residuals takes lists one behind another.
+-- What collects residuals takes lists one after another.
 use Rattle.std.specs.Prelude.{◌≡◌, ℕ, Bool, true, false, List, [], ◌++◌, IsTrue}
 use Rattle.std.proofs.Common.{refl, sym, ap, ◌∙◌, append-nil, append_assoc}
 use Rattle.cube_predictors.specs.Takings.{AreTakings}

@@ -7,11 +7,11 @@ use Rattle.cube_core.specs.Order.{upto}
 abbrev pub first_state : ℕ
 first_state = 0x9E3779B97F4A7C15
 
--- the state behind another
+-- the state after another
 abbrev pub next_state : ℕ → ℕ
 next_state state = (6364136223846793005 * state + 1442695040888963407) % 2 ^ 64
 
--- the state behind so many numbers
+-- the state after so many numbers
 unfoldable pub state_behind : ℕ → ℕ
 state_behind zero = first_state
 state_behind (suc n) = next_state (state_behind n)

@@ -2,7 +2,7 @@
 
 use crate::tests::checks::same;
 use cube_core::fault::Fault;
-use header_bits::bit_reader::{BitReader, bits_behind};
+use header_bits::bit_reader::{BitReader, bits_after};
 
 #[test]
 fn zeros_end_at_a_one_or_at_the_limit(rt: HostRuntime) {
@@ -61,8 +61,8 @@ fn peek_returns_the_next_bits(rt: HostRuntime) {
 
 #[test]
 fn bits_within_a_word(rt: HostRuntime) {
-    same(&rt, bits_behind(0xA50F_FF00_1234_5678, 4, 12), 0x50F);
-    same(&rt, bits_behind(0xA50F_FF00_1234_5678, 63, 0), 0);
+    same(&rt, bits_after(0xA50F_FF00_1234_5678, 4, 12), 0x50F);
+    same(&rt, bits_after(0xA50F_FF00_1234_5678, 63, 0), 0);
 }
 
 #[test]

@@ -48,7 +48,7 @@ pub fn body_filled_alone()
     ensures { test 23 0x00000100020001110000200002A0925900822690800000 ≡ fine }
 {}
 
-/// 3 after eight zeros: three zeros and a one spell it.
+/// 3 after eight zeros: its code word is three zeros and a one.
 pub fn needless_escape()
     ensures { test 22 0x00000100020001110000080002A09259004220900003 ≡ Err (BadCode 1) }
 {}

@@ -18,7 +18,7 @@ fn refusal(
     plan_of(rt, alloc, &by_pixel(rt), predictors, deal, slots).err()
 }
 
-/// Checks that predictors are judged before slots, and slots before the deal.
+/// Checks that predictors are tested before slots, and slots before the deal.
 #[test]
 fn numbers_are_judged_in_order(rt: HostRuntime) {
     let none = range(Field::Predictors, 0);
@@ -33,7 +33,7 @@ fn numbers_are_judged_in_order(rt: HostRuntime) {
     same(&rt, refusal(&rt, rt.alloc(), 64, &[63, 0], 1), None);
 }
 
-/// Checks that the first wrong entry of a deal is judged before the deal's length.
+/// Checks that the first wrong entry of a deal is refused before the deal's length.
 #[test]
 fn entries_are_judged_before_the_length(rt: HostRuntime) {
     same(&rt, refusal(&rt, rt.alloc(), 2, &[0, 2], 1), band(1));

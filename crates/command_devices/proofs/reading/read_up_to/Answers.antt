@@ -13,12 +13,12 @@ loop-had-preserved g c =
           (front_kept had c.loop-had.bytes.items _ (omega (arith, c.loop-had.invariant.within)) w.in_ok-grow.ensures.kept)
       | else-had-len w ↦ rw w.bytes-is refl
     ] in
-    let whole : (with_items c.if-had-len.bytes c.read_behind.new.bytes).items ≡ c.read_behind.new.bytes =
-    with_items_is c.if-had-len.bytes c.read_behind.new.bytes (omega (arith, c.read_behind.auto.bytes, c.deref_mut.ensures.len)) in
-    let before : take had c.read_behind.new.bytes ≡ take had c.loop-had.bytes.items =
+    let whole : (with_items c.if-had-len.bytes c.read_after.new.bytes).items ≡ c.read_after.new.bytes =
+    with_items_is c.if-had-len.bytes c.read_after.new.bytes (omega (arith, c.read_after.auto.bytes, c.deref_mut.ensures.len)) in
+    let before : take had c.read_after.new.bytes ≡ take had c.loop-had.bytes.items =
     c.in-Ok.ensures.kept ∙ ap (λ (x : List ℕ). take had x) c.deref_mut.ensures.value ∙ kept in
-    let more : take (had + c.in-Ok.n) c.read_behind.new.bytes ≡ take had c.loop-had.bytes.items ++ drop had (take (had + c.in-Ok.n) c.read_behind.new.bytes) =
-    read_more had c.in-Ok.n c.loop-had.bytes.items c.read_behind.new.bytes (omega (arith, c.read_behind.auto.bytes, c.in-Ok.ensures.within)) before in
+    let more : take (had + c.in-Ok.n) c.read_after.new.bytes ≡ take had c.loop-had.bytes.items ++ drop had (take (had + c.in-Ok.n) c.read_after.new.bytes) =
+    read_more had c.in-Ok.n c.loop-had.bytes.items c.read_after.new.bytes (omega (arith, c.read_after.auto.bytes, c.in-Ok.ensures.within)) before in
     record {
       given = rw (whole, more) (gave_more _ _ _ (take had c.loop-had.bytes.items) _ c.loop-had.invariant.given c.in-Ok.ensures.given);
       within = omega (arith, c.in-Ok.ensures.within, c.deref_mut.ensures.len);

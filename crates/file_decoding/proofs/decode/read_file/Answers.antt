@@ -9,7 +9,7 @@ use Rattle.file_decoding.proofs.decode.read_file.Goals.{In_ok-params}
 pub returns-in_err-params : goal.returns-in_err-params
 returns-in_err-params c = told _ _ _ c.from_residual.ensures.1 (stopped _ _ (rw c.new-reader.ensures.left at c.in_err-params.ensures.takes))
 
--- ---- behind the header
+-- ---- after the header
 
 module _ (c : In_ok-params) where
   header : header_at (bits_of_bytes c.args.bytes.now) ≡ Ok (c.in_ok-params.params, c.take_header.new.reader.left)

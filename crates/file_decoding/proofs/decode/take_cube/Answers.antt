@@ -137,7 +137,7 @@ fill-requires-clause-residuals_in c k lt =
     let given = got.given (may d _ (got.long ∙ long d)) in
     rw c.loop-place.invariant.walked.kind (each_below (2 ^ c.args.params.now.kind.bits) c.read.new.deltas given.0 k lt)
 
--- ---- behind it
+-- ---- after it
 
 pub loop-place-smaller : goal.loop-place-smaller
 loop-place-smaller c =

@@ -1,6 +1,6 @@
 use Rattle.std.proofs.Common.{◌≡◌, ◌∙◌, Ok, Err, inl, inr, refl}
 use Rattle.std.proofs.lemmas.Result.{err_from_is_err_and}
-use Rattle.header_bits.specs.Header.{Said, said, params_of, parts_at, header_at}
+use Rattle.header_bits.specs.Header.{HeaderContents, header_contents, params_of, parts_at, header_at}
 use Rattle.header_bits.proofs.Headers.{header_refused, header_read, refused_spells_none}
 use Rattle.header_bits.proofs.HeaderTexts.{table_kept, left_within, left_behind, read_lawful}
 use Rattle.header_bits.proofs.header.take_header.Goals as goal
@@ -24,10 +24,10 @@ returns-in_err-parts-clause-none c =
 -- ---- all parts
 
 module _ (c : In_ok-parts) where
-  abbrev parts_say : Said
+  abbrev parts_say : HeaderContents
   parts_say =
       let x = c.in_ok-parts.parts in
-      said x.image x.predictor x.weights.left x.coder x.constants.left
+      header_contents x.image x.predictor x.weights.left x.coder x.constants.left
 
   parts : parts_at c.args.reader.now.left ≡ Ok (parts_say, c.look_through.new.reader.left)
   parts = rw c.fork-ahead.ensures at c.in_ok-parts.ensures.reads

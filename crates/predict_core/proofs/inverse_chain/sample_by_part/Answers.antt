@@ -54,14 +54,14 @@ module _ (c : After-unmap_by_center-offset) where
       sample_is r.smin (smax r.kind) _ low.0 low.1 within.0 (rw r.smin_is within.1) (rw (← r.smax_is) high.1)
       ∙ ap (λ v. v +ℤ c.unmap_by_center-offset.result.0) r.smin_is
 
-pub returns-clause-turn : goal.returns-clause-turn
-returns-clause-turn c =
-    let d = (goal.at.returns-clause-turn c).After-unmap_by_center-offset in let k : SampleKind = c.args.range.now.kind in
-    let center_fits : SFits w32 c.center_of-center.result = search rules in let turn_fits : SFits w32 c.unmap_by_center-offset.result.1 = search rules in
+pub returns-clause-sign : goal.returns-clause-sign
+returns-clause-sign c =
+    let d = (goal.at.returns-clause-sign c).After-unmap_by_center-offset in let k : SampleKind = c.args.range.now.kind in
+    let center_fits : SFits w32 c.center_of-center.result = search rules in let mask_fits : SFits w32 c.unmap_by_center-offset.result.1 = search rules in
     let center = simp (to_z-of_z c.ranges.part) at c.center_of-center.ensures.value in
-    let turn = rw (width c.args.range.now, center) at (simp (to_z-of_z center_fits) at c.unmap_by_center-offset.ensures.turn) in
-    rw (to_z-of_z turn_fits, sample_found d)
-    (turn ∙ told (smin k) c.args.part (pos c.args.sum) _ (smax k -ℤ smin k) _ (within d).0 (within d).1 refl)
+    let sign_mask = rw (width c.args.range.now, center) at (simp (to_z-of_z center_fits) at c.unmap_by_center-offset.ensures.sign) in
+    rw (to_z-of_z mask_fits, sample_found d)
+    (sign_mask ∙ told (smin k) c.args.part (pos c.args.sum) _ (smax k -ℤ smin k) _ (within d).0 (within d).1 refl)
 
 pub returns-clause-inverse : goal.returns-clause-inverse
 returns-clause-inverse c =

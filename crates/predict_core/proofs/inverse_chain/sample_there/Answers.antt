@@ -86,9 +86,9 @@ returns-clause-weights g c =
     let d = (goal.at.returns-clause-weights g c).After-update_by in
     let filled = filled g (goal.at.returns-clause-weights g c).After-put_west in let s = c.args.settings.now in let found = c.sample_by_part-found.result.0 in
     let fits : SFits w32 c.sample_by_part-found.result.0 = search rules in let part_fits : SFits w32 c.predicted_difference-part.result = search rules in
-    let exponent_fits : SFits w32 c.exponent_at-exponent.result = search rules in let turn_fits : SFits w32 c.sample_by_part-found.result.1 = search rules in
-    let turn = rw (← s.range.smin_is) at (simp (to_z-of_z part_fits) at c.sample_by_part-found.ensures.turn) in
-    let moved = rw turn at (simp (to_z-of_z exponent_fits, to_z-of_z turn_fits) at c.update_by.ensures.value) in
+    let exponent_fits : SFits w32 c.exponent_at-exponent.result = search rules in let mask_fits : SFits w32 c.sample_by_part-found.result.1 = search rules in
+    let sign_mask = rw (← s.range.smin_is) at (simp (to_z-of_z part_fits) at c.sample_by_part-found.ensures.sign) in
+    let moved = rw sign_mask at (simp (to_z-of_z exponent_fits, to_z-of_z mask_fits) at c.update_by.ensures.value) in
     let exponent = rw (same_bits g (goal.at.returns-clause-weights g c).Start, ← c.requires.columns) at c.exponent_at-exponent.ensures.value in
     let m = moved_from_room s.predictor c.args.cube.now s.band c.args.y c.args.x s.count g.row.N c.args.weights.now c.put_west.new.components
     c.prove_is_cube.ensures c.requires.place s.count_is c.requires.enough c.requires.few filled _ (by_difference g d)
@@ -111,7 +111,7 @@ pub returns-clause-range : goal.returns-clause-range
 returns-clause-range g c =
     let fits : SFits w32 c.sample_by_part-found.result.0 = search rules in rw (to_z-of_z fits, c.requires.kind) c.sample_by_part-found.ensures.range
 
-pub update_by-requires-clause-turn_in : goal.update_by-requires-clause-turn_in
-update_by-requires-clause-turn_in g c =
+pub update_by-requires-clause-sign_mask_in : goal.update_by-requires-clause-sign_mask_in
+update_by-requires-clause-sign_mask_in g c =
     let fits : SFits w32 c.sample_by_part-found.result.1 = search rules in let found = c.sample_by_part-found.ensures in
     rw (to_z-of_z fits) (found.least, found.most)

@@ -4,7 +4,7 @@ use Rattle.predict_core.proofs.Quads.{zero_at}
 use Rattle.std.proofs.lemmas.Grind.{common_steps}
 use Rattle.predict_core.proofs.mapping.copy_offsets.Goals as goal
 
--- what stands behind those that were written
+-- what comes after those that were written
 behind : (xs ys : List ℕ) (n k : ℕ) → length xs ≡ n → n ≤ k → ys ≡ replicate 64 0 → ◌≡◌ {A = ℕ} (get_or (xs ++ drop n ys) k 0) 0
 behind xs ys n k e h f =
     let place : k ≡ length xs + (k - n) = omega (arith, e, h) in

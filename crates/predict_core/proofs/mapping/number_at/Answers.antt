@@ -20,21 +20,21 @@ overflow_sub-offset c =
     fits_signed_from_abs w32 (to_z w32 (of_z w32 (pos 2 *ℤ to_z w32 (of_z w32 c.args.offset))) -ℤ to_z w32 (of_z w32 c.args.twice))
     (omega (arith, ints, t.0, t.1, h.0, h.1, g.0, g.1))
 
-pub by_turns-requires : goal.by_turns-requires
-by_turns-requires c = let t = c.requires.twice_in in let h = c.requires.offset_in in let g = c.requires.greatest_in in
+pub alternating_number-requires : goal.alternating_number-requires
+alternating_number-requires c = let t = c.requires.twice_in in let h = c.requires.offset_in in let g = c.requires.greatest_in in
     omega (arith, ints, t.0, t.1, h.0, h.1, g.0, g.1)
 
 value : (c : After-min) → to_z w32 (of_z w32 c.min.result) ≡ pos (mapped_between (pos 0) c.args.greatest c.args.twice c.args.offset)
 value c =
     let g = c.requires.greatest_in in let t = c.requires.twice_in in let h = c.requires.offset_in in
-    let half_fits : SFits w32 c.prediction_of-value.result = search rules in let turned_fits : SFits w32 c.by_turns.result = search rules in
+    let half_fits : SFits w32 c.prediction_of-value.result = search rules in let alternating_fits : SFits w32 c.alternating_number.result = search rules in
     let min_fits : SFits w32 c.min.result = search rules in let half = simp (to_z-of_z c.ranges.twice) at c.prediction_of-value.ensures.value in
     let far = far_is c.args.greatest c.args.twice c.args.offset t.0 t.1 g.1 h.0 h.1 in
     let beyond = beyond_is c.apart.result c.nearer.result c.apart.ensures.bound c.nearer.ensures.bound in
     let size = rw half at (simp (to_z-of_z c.ranges.offset, to_z-of_z half_fits) at c.apart.ensures.value) in
     let near = rw half at (simp (to_z-of_z c.ranges.greatest, to_z-of_z half_fits) at c.nearer.ensures.value) in
-    let least = rw (to_z-of_z turned_fits, beyond, size, near) at c.min.ensures.value in
-    to_z-of_z min_fits ∙ least ∙ number_is _ _ _ _ t.0 (rw far at c.by_turns.ensures.above) (rw far at c.by_turns.ensures.below)
+    let least = rw (to_z-of_z alternating_fits, beyond, size, near) at c.min.ensures.value in
+    to_z-of_z min_fits ∙ least ∙ number_is _ _ _ _ t.0 (rw far at c.alternating_number.ensures.above) (rw far at c.alternating_number.ensures.below)
 
 pub returns-clause-value : goal.returns-clause-value
 returns-clause-value c = value (goal.at.returns-clause-value c).After-min

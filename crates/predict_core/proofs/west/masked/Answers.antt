@@ -1,6 +1,6 @@
 use Rattle.std.proofs.Common.{arith}
 use Rattle.std.proofs.lemmas.Int.{ints}
-use Rattle.sample_prediction.proofs.Turns.{masked_is, masked_within}
+use Rattle.sample_prediction.proofs.SignMasks.{masked_is, masked_within}
 use Rattle.predict_core.proofs.west.masked.Goals as goal
 
 pub returns-clause-value : goal.returns-clause-value

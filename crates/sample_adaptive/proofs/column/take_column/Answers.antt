@@ -14,7 +14,7 @@ pub returns-then-done-numbers-clause-taken : goal.returns-then-done-numbers-clau
 returns-then-done-numbers-clause-taken c = λ v same settings.
     ends (c.take_ready-done.ensures.taken v c.args.t (omega (arith, c.if-t-eq0.false)) same settings) (omega (arith, c.if-done-numbers.true))
 
--- the rest is taken behind them
+-- the rest is taken after them
 pub returns-clause-taken : goal.returns-clause-taken
 returns-clause-taken c = λ v same settings.
     let e = c.take_ready-done.ensures in

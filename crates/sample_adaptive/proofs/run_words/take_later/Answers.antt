@@ -10,7 +10,7 @@ pub returns-then-done-numbers-clause-taken : goal.returns-then-done-numbers-clau
 returns-then-done-numbers-clause-taken c = λ v z t k within settings own some.
     ends (c.take_ready-done.ensures.taken v z t k within settings own some) (omega (arith, c.if-done-numbers.true))
 
--- the rest is taken behind them
+-- the rest is taken after them
 pub returns-clause-taken : goal.returns-clause-taken
 returns-clause-taken c = λ v z t k within settings own some.
     let e = c.take_ready-done.ensures in

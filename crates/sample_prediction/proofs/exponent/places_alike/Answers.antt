@@ -6,4 +6,4 @@ pub returns-then-t-behind-clause-alike : goal.returns-then-t-behind-clause-alike
 returns-then-t-behind-clause-alike c bits k l = alike_in_first_row _ _ bits _ k c.requires.lawful.order (omega (arith, l))
 
 pub returns-else-t-behind-clause-alike : goal.returns-else-t-behind-clause-alike
-returns-else-t-behind-clause-alike c bits k l = alike_later c.args.predictor.now c.args.columns bits c.args.t k (omega arith) (c.alike_behind.ensures.alike k l)
+returns-else-t-behind-clause-alike c bits k l = alike_later c.args.predictor.now c.args.columns bits c.args.t k (omega arith) (c.alike_after.ensures.alike k l)

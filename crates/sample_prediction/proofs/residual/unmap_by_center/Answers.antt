@@ -5,7 +5,7 @@ use Rattle.header_bits.proofs.Tests.{lt_false}
 use Rattle.sample_prediction.specs.Arithmetic.{floor_div, clip}
 use Rattle.sample_prediction.specs.Mapping.{Between, unmapped_between}
 use Rattle.sample_prediction.specs.Residual.{mapped_between}
-use Rattle.sample_prediction.proofs.NearSamples.{even_sample, odd_sample, even_turn, odd_turn}
+use Rattle.sample_prediction.proofs.NearSamples.{even_sample, odd_sample, even_sign, odd_sign}
 use Rattle.sample_prediction.proofs.OneSample.{sample_in, number_back}
 use Rattle.sample_prediction.proofs.residual.unmap_by_center.Goals as goal
 use Rattle.sample_prediction.proofs.residual.unmap_by_center.Goals.{After-unsigned_abs, After-unmap_far}
@@ -91,10 +91,10 @@ returns-then-delta-unsigned_abs-eq0-clause-inverse c =
     let d = (goal.at.returns-then-delta-unsigned_abs-eq0-clause-inverse c).After-unsigned_abs in
     ap (mapped_between c.args.low c.args.high (scaled d)) (returns-then-delta-unsigned_abs-eq0-clause-value c) ∙ inverse d
 
-pub returns-then-delta-unsigned_abs-eq0-clause-turn : goal.returns-then-delta-unsigned_abs-eq0-clause-turn
-returns-then-delta-unsigned_abs-eq0-clause-turn c =
-    let d = (goal.at.returns-then-delta-unsigned_abs-eq0-clause-turn c).After-unsigned_abs in sign_of d _ _ (returns-then-delta-unsigned_abs-eq0-clause-value c)
-    (even_turn _ _ _ _ _ (half d) (least d) (most d) (rw (parity d) at c.if-delta-unsigned_abs-eq0.true))
+pub returns-then-delta-unsigned_abs-eq0-clause-sign : goal.returns-then-delta-unsigned_abs-eq0-clause-sign
+returns-then-delta-unsigned_abs-eq0-clause-sign c =
+    let d = (goal.at.returns-then-delta-unsigned_abs-eq0-clause-sign c).After-unsigned_abs in sign_of d _ _ (returns-then-delta-unsigned_abs-eq0-clause-value c)
+    (even_sign _ _ _ _ _ (half d) (least d) (most d) (rw (parity d) at c.if-delta-unsigned_abs-eq0.true))
 
 pub returns-else-delta-unsigned_abs-eq0-clause-value : goal.returns-else-delta-unsigned_abs-eq0-clause-value
 returns-else-delta-unsigned_abs-eq0-clause-value c =
@@ -111,10 +111,10 @@ returns-else-delta-unsigned_abs-eq0-clause-inverse c =
     let d = (goal.at.returns-else-delta-unsigned_abs-eq0-clause-inverse c).After-unsigned_abs in
     ap (mapped_between c.args.low c.args.high (scaled d)) (returns-else-delta-unsigned_abs-eq0-clause-value c) ∙ inverse d
 
-pub returns-else-delta-unsigned_abs-eq0-clause-turn : goal.returns-else-delta-unsigned_abs-eq0-clause-turn
-returns-else-delta-unsigned_abs-eq0-clause-turn c =
-    let d = (goal.at.returns-else-delta-unsigned_abs-eq0-clause-turn c).After-unsigned_abs in sign_of d _ _ (returns-else-delta-unsigned_abs-eq0-clause-value c)
-    (odd_turn _ _ _ _ _ (half d) (least d) (most d) (rw (parity d) at c.if-delta-unsigned_abs-eq0.false))
+pub returns-else-delta-unsigned_abs-eq0-clause-sign : goal.returns-else-delta-unsigned_abs-eq0-clause-sign
+returns-else-delta-unsigned_abs-eq0-clause-sign c =
+    let d = (goal.at.returns-else-delta-unsigned_abs-eq0-clause-sign c).After-unsigned_abs in sign_of d _ _ (returns-else-delta-unsigned_abs-eq0-clause-value c)
+    (odd_sign _ _ _ _ _ (half d) (least d) (most d) (rw (parity d) at c.if-delta-unsigned_abs-eq0.false))
 
 pub clipped-requires-clause-order : goal.clipped-requires-clause-order
 clipped-requires-clause-order c = search rules
@@ -138,6 +138,6 @@ returns-then-below-low-clause-range c = rw (to_z-of_z c.ranges.low, to_z-of_z c.
 pub returns-then-below-low-clause-inverse : goal.returns-then-below-low-clause-inverse
 returns-then-below-low-clause-inverse c = rw (to_z-of_z c.ranges.low, to_z-of_z c.ranges.high, clipped_is c) at c.unmap_far.ensures.inverse
 
-pub returns-then-below-low-clause-turn : goal.returns-then-below-low-clause-turn
-returns-then-below-low-clause-turn c =
-    rw (returns-then-below-low-clause-value c) (rw (to_z-of_z c.ranges.low, to_z-of_z c.ranges.high, clipped_is c) at c.unmap_far.ensures.turn)
+pub returns-then-below-low-clause-sign : goal.returns-then-below-low-clause-sign
+returns-then-below-low-clause-sign c =
+    rw (returns-then-below-low-clause-value c) (rw (to_z-of_z c.ranges.low, to_z-of_z c.ranges.high, clipped_is c) at c.unmap_far.ensures.sign)

@@ -9,10 +9,10 @@ returns-then-count-eq0-clause-value c us l e = rw c.if-count-eq0.true refl
 
 pub returns-then-count-le8-clause-value : goal.returns-then-count-le8-clause-value
 returns-then-count-le8-clause-value c us l e =
-    let turn_fits : SFits w32 c.turn_of-turn.result = search rules in update_in_use _ _ _ _ us _ _ 8 (18 - c.args.count) l (omega arith) (omega arith)
-    (rw e at (simp (to_z-of_z c.ranges.exponent, to_z-of_z turn_fits, c.turn_of-turn.ensures.value) at c.update_first.ensures.value))
+    let fits : SFits w32 c.sign_mask_of-sign_mask.result = search rules in update_in_use _ _ _ _ us _ _ 8 (18 - c.args.count) l (omega arith) (omega arith)
+    (rw e at (simp (to_z-of_z c.ranges.exponent, to_z-of_z fits, c.sign_mask_of-sign_mask.ensures.value) at c.update_first.ensures.value))
 
 pub returns-else-count-le8-clause-value : goal.returns-else-count-le8-clause-value
 returns-else-count-le8-clause-value c us l e =
-    let turn_fits : SFits w32 c.turn_of-turn.result = search rules in update_in_use _ _ _ _ us _ _ 18 (18 - c.args.count) l (omega arith) (omega arith)
-    (rw e at (simp (to_z-of_z c.ranges.exponent, to_z-of_z turn_fits, c.turn_of-turn.ensures.value) at c.update_first-else-count-le8.ensures.value))
+    let fits : SFits w32 c.sign_mask_of-sign_mask.result = search rules in update_in_use _ _ _ _ us _ _ 18 (18 - c.args.count) l (omega arith) (omega arith)
+    (rw e at (simp (to_z-of_z c.ranges.exponent, to_z-of_z fits, c.sign_mask_of-sign_mask.ensures.value) at c.update_first-else-count-le8.ensures.value))

@@ -7,8 +7,8 @@ returns-clause-within c = search
 pub returns-clause-received : goal.returns-clause-received
 returns-clause-received c = cc
 
-pub returns-clause-behind : goal.returns-clause-behind
-returns-clause-behind c = search
+pub returns-clause-rest : goal.returns-clause-rest
+returns-clause-rest c = search
 
 pub returns-clause-seen : goal.returns-clause-seen
 returns-clause-seen c = search rules

@@ -12,8 +12,8 @@ use Rattle.block_adaptive.proofs.block_writer.BlockWriter.end.Goals as goal
 pub returns-then-self-eq0-clause-ended : goal.returns-then-self-eq0-clause-ended
 returns-then-self-eq0-clause-ended c = grind (arith, nothing_left)
 
-pub returns-then-self-eq0-clause-behind : goal.returns-then-self-eq0-clause-behind
-returns-then-self-eq0-clause-behind c = search rules
+pub returns-then-self-eq0-clause-past : goal.returns-then-self-eq0-clause-past
+returns-then-self-eq0-clause-past c = search rules
 
 pub pack-requires-clause-total : goal.pack-requires-clause-total
 pack-requires-clause-total c = grind (arith, common_steps)
@@ -31,8 +31,8 @@ returns-clause-ended c =
     (omega (arith, was.few)) some (range_filled _ _ _ (pow_pos c.self.inside.set.bits) was.range) p)
     (rw (← c.self.view_is, block-is) at c.pack-2.ensures.appended))
 
-pub returns-clause-behind : goal.returns-clause-behind
-returns-clause-behind c = grind (arith, common_steps)
+pub returns-clause-past : goal.returns-clause-past
+returns-clause-past c = grind (arith, common_steps)
 
 pub returns-clause-memory : goal.returns-clause-memory
 returns-clause-memory c = grind (arith, common_steps)

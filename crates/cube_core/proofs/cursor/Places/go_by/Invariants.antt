@@ -2,7 +2,7 @@ use Rattle.std.specs.Prelude.{◌≡◌, ◌≤◌, drop}
 use Rattle.cube_core.specs.Cursor.{IsWalk, places_left}
 use Rattle.cube_core.proofs.cursor.Places.go_by.Given as goal
 
--- what remains to be gone by is left, and is behind it what it was at first
+-- what remains to be skipped is left, and after it comes what did at first
 abbrev pub invariant-loop-rest : goal.invariant-loop-rest
 invariant-loop-rest l =
     let walk = l.self-inside in

@@ -32,7 +32,7 @@ column : (c : In-loop-i) → (let first : ℕ = c.loop-i.i * c.args.self.now.ban
     length (take (first + c.args.self.now.bands - first) (drop first c.loop-i.deltas)) ≡ c.args.self.now.bands)
 column c = omega (arith, inside c, length-take {A = ℕ}, length-drop {A = ℕ})
 
--- it may be asked for behind those before it
+-- it may be asked for after those before it
 abbrev next : (c : In-loop-i) (size : ℕ) → size ≡ c.args.self.now.bands
     → MayAskEach c.args.decoder.now (band_in c.args.self.now) (time_in c.args.self.now c.args.t) c.args.index (length c.args.deltas.now)
     → MayAskColumn c.loop-i.decoder c.args.self.now.place.z (c.args.t + c.loop-i.i) (c.args.index + c.loop-i.i * c.args.self.now.bands) size

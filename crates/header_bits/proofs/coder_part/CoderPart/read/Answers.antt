@@ -1,7 +1,7 @@
 use Rattle.std.proofs.Common.{arith, sym, ap, ◌∙◌, true, false, Ok}
 use Rattle.std.proofs.lemmas.Result.{err_from_is_err_and}
 use Rattle.header_bits.specs.CoderPart.{coder, coder_by}
-use Rattle.header_bits.proofs.PartReading.{part_short, part_refused, part_said, values_held, coder_size, coder_by_size, coder_is}
+use Rattle.header_bits.proofs.PartReading.{part_short, part_refused, part_is_read, values_held, coder_size, coder_by_size, coder_is}
 use Rattle.header_bits.proofs.coder_part.CoderPart.read.Goals as goal
 
 pub returns-then-left-coder_bits : goal.returns-then-left-coder_bits
@@ -16,14 +16,14 @@ returns-in_err-test_block c =
     rw (p.1, p.2) (coder_is true _ _ _ _ c.if-image.true (part_refused (coder_by true c.args.at c.args.image.now) c.args.reader.now.left _ _
     (omega (arith, coder_by_size true c.args.at c.args.image.now)) c.read_values.ensures.values (sym c.in_err-test_block.ensures)))
 
-pub said_block-requires : goal.said_block-requires
-said_block-requires c = values_held (coder_by true c.args.at c.args.image.now) c.args.reader.now.left _
+pub block_part_of-requires : goal.block_part_of-requires
+block_part_of-requires c = values_held (coder_by true c.args.at c.args.image.now) c.args.reader.now.left _
     (omega (arith, coder_by_size true c.args.at c.args.image.now)) c.read_values.ensures.values
 
 pub returns-in_ok-test_block : goal.returns-in_ok-test_block
-returns-in_ok-test_block c = coder_is true _ _ _ _ c.if-image.true (part_said (coder_by true c.args.at c.args.image.now) c.args.reader.now.left _ _
-    (omega (arith, coder_by_size true c.args.at c.args.image.now)) c.read_values.ensures.values (sym c.in_ok-test_block.ensures) c.said_block.ensures)
-    ∙ ap (λ x. Ok (c.said_block.result, x)) (sym c.read_values.ensures.left)
+returns-in_ok-test_block c = coder_is true _ _ _ _ c.if-image.true (part_is_read (coder_by true c.args.at c.args.image.now) c.args.reader.now.left _ _
+    (omega (arith, coder_by_size true c.args.at c.args.image.now)) c.read_values.ensures.values (sym c.in_ok-test_block.ensures) c.block_part_of.ensures)
+    ∙ ap (λ x. Ok (c.block_part_of.result, x)) (sym c.read_values.ensures.left)
 
 pub read_values-requires-else-image-clause-whole : goal.read_values-requires-else-image-clause-whole
 read_values-requires-else-image-clause-whole c = (omega (arith, coder_by_size false c.args.at c.args.image.now))
@@ -40,6 +40,6 @@ returns-in_err-test_sample c =
 
 pub returns-in_ok-test_sample : goal.returns-in_ok-test_sample
 returns-in_ok-test_sample c = coder_is false _ _ _ _ c.if-image.false
-    (part_said (coder_by false c.args.at c.args.image.now) c.args.reader.now.left _ _ (omega (arith, coder_by_size false c.args.at c.args.image.now))
-    c.read_values-else-image.ensures.values (sym c.in_ok-test_sample.ensures) c.said_sample.ensures)
-    ∙ ap (λ x. Ok (c.said_sample.result, x)) (sym c.read_values-else-image.ensures.left)
+    (part_is_read (coder_by false c.args.at c.args.image.now) c.args.reader.now.left _ _ (omega (arith, coder_by_size false c.args.at c.args.image.now))
+    c.read_values-else-image.ensures.values (sym c.in_ok-test_sample.ensures) c.sample_part_of.ensures)
+    ∙ ap (λ x. Ok (c.sample_part_of.result, x)) (sym c.read_values-else-image.ensures.left)

@@ -1,7 +1,7 @@
 use Rattle.std.proofs.Common.{arith, sym, ap, ◌∙◌, Ok}
 use Rattle.std.proofs.lemmas.Result.{err_from_is_err_and}
 use Rattle.header_bits.specs.ImagePart.{image}
-use Rattle.header_bits.proofs.PartReading.{part_short, part_refused, part_said, values_held, image_size}
+use Rattle.header_bits.proofs.PartReading.{part_short, part_refused, part_is_read, values_held, image_size}
 use Rattle.header_bits.proofs.image_part.ImagePart.read.Goals as goal
 
 pub returns-then-left-image_end : goal.returns-then-left-image_end
@@ -17,11 +17,11 @@ returns-in_err-test c =
     let p = err_from_is_err_and c.from_residual.result c.from_residual.ensures.1 in
     rw (p.1, p.2) (part_refused image c.args.reader.now.left _ _ (omega (arith, image_size)) c.read_values.ensures.values (sym c.in_err-test.ensures))
 
-pub said-requires-clause-held : goal.said-requires-clause-held
+pub part_of-requires-clause-held : goal.part_of-requires-clause-held
 unfolding image
-said-requires-clause-held c = values_held image c.args.reader.now.left _ (omega (arith, image_size)) c.read_values.ensures.values
+part_of-requires-clause-held c = values_held image c.args.reader.now.left _ (omega (arith, image_size)) c.read_values.ensures.values
 
 pub returns : goal.returns
 unfolding image
-returns c = part_said image c.args.reader.now.left _ _ (omega (arith, image_size)) c.read_values.ensures.values (sym c.in_ok-test.ensures) c.said.ensures
-    ∙ ap (λ x. Ok (c.said.result, x)) (sym c.read_values.ensures.left)
+returns c = part_is_read image c.args.reader.now.left _ _ (omega (arith, image_size)) c.read_values.ensures.values (sym c.in_ok-test.ensures) c.part_of.ensures
+    ∙ ap (λ x. Ok (c.part_of.result, x)) (sym c.read_values.ensures.left)

@@ -1,7 +1,7 @@
 use Rattle.std.proofs.Common.{arith, sym, ap, ◌∙◌, Ok}
 use Rattle.std.proofs.lemmas.Result.{err_from_is_err_and}
 use Rattle.header_bits.specs.PredictorPart.{predictor}
-use Rattle.header_bits.proofs.PartReading.{part_short, part_refused, part_said, values_held, predictor_size}
+use Rattle.header_bits.proofs.PartReading.{part_short, part_refused, part_is_read, values_held, predictor_size}
 use Rattle.header_bits.proofs.predictor_part.PredictorPart.read.Goals as goal
 
 pub returns-then-left-predictor_bits : goal.returns-then-left-predictor_bits
@@ -22,12 +22,12 @@ returns-in_err-test c =
     rw (p.1, p.2) (part_refused (predictor c.args.image.now) _ _ _ (omega (arith, predictor_size c.args.image.now)) c.read_values.ensures.values
     (sym c.in_err-test.ensures))
 
-pub said-requires : goal.said-requires
+pub part_of-requires : goal.part_of-requires
 unfolding predictor
-said-requires c = values_held (predictor c.args.image.now) _ _ (omega (arith, predictor_size c.args.image.now)) c.read_values.ensures.values
+part_of-requires c = values_held (predictor c.args.image.now) _ _ (omega (arith, predictor_size c.args.image.now)) c.read_values.ensures.values
 
 pub returns : goal.returns
 unfolding predictor
-returns c = part_said (predictor c.args.image.now) _ _ _ (omega (arith, predictor_size c.args.image.now)) c.read_values.ensures.values
-    (sym c.in_ok-test.ensures) c.said.ensures
-    ∙ ap (λ x. Ok (c.said.result, x)) (sym c.read_values.ensures.left)
+returns c = part_is_read (predictor c.args.image.now) _ _ _ (omega (arith, predictor_size c.args.image.now)) c.read_values.ensures.values
+    (sym c.in_ok-test.ensures) c.part_of.ensures
+    ∙ ap (λ x. Ok (c.part_of.result, x)) (sym c.read_values.ensures.left)

@@ -6,7 +6,7 @@ use Rattle.sample_adaptive.proofs.stats.Stats.put_run.Goals as goal
 pub returns-then-t-ge1-clause-taken : goal.returns-then-t-ge1-clause-taken
 returns-then-t-ge1-clause-taken c = rw (← c.in_ok-make_room.ensures.same) (c.put_later.ensures.taken c.args.t c.if-t-ge1.true)
 
--- a first number and those behind it
+-- a first number and those after it
 pub returns-in-Ok-clause-taken : goal.returns-in-Ok-clause-taken
 returns-in-Ok-clause-taken c =
     let none : c.args.t ≡ 0 = omega arith in

@@ -13,8 +13,8 @@ kept (negsuc n) h = let masked : bit_and (2 ^ 32 - suc n) 4294967295 ≡ (2 ^ 32
     omega (arith, ints, masked, h)
 
 -- one of two numbers, by such a word
-pub chosen_is : (turn a b : ℤ) → negsuc 0 ≤ℤ turn → turn ≤ℤ pos 0 → unsigned_abs a ≤ 2 ^ 21 → unsigned_abs b ≤ 2 ^ 21
-    → a +ℤ to_z w32 (bit_and (of_z w32 (b -ℤ a)) (of_z w32 turn)) ≡ (if int_lt turn (pos 0) then b else a)
+pub chosen_is : (sign_mask a b : ℤ) → negsuc 0 ≤ℤ sign_mask → sign_mask ≤ℤ pos 0 → unsigned_abs a ≤ 2 ^ 21 → unsigned_abs b ≤ 2 ^ 21
+    → a +ℤ to_z w32 (bit_and (of_z w32 (b -ℤ a)) (of_z w32 sign_mask)) ≡ (if int_lt sign_mask (pos 0) then b else a)
 chosen_is (pos zero) a b l h s t = rw (and_zero_r (of_z w32 (b -ℤ a))) (omega (arith, ints))
 chosen_is (pos (suc n)) a b l h s t = absurd (omega (arith, ints, h))
 chosen_is (negsuc zero) a b l h s t =

@@ -1,7 +1,7 @@
 use Rattle.std.proofs.Common.{◌∙◌, arith}
 use Rattle.header_bits.proofs.Each.{each_more, each_ends, each_done}
 use Rattle.block_adaptive.proofs.Takes.{quotients_each}
-use Rattle.block_adaptive.proofs.data_sets.judged_codes.Goals as goal
+use Rattle.block_adaptive.proofs.data_sets.checked_codes.Goals as goal
 
 pub returns-in_err-value-clause-read : goal.returns-in_err-value-clause-read
 returns-in_err-value-clause-read c = grind (arith, each_ends, quotients_each)

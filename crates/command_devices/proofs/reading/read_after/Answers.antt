@@ -3,7 +3,7 @@ use borrow.Rule.Slice.PartMut.{put_mid}
 use Rattle.command_devices.specs.declared.source.Failed.{Failed}
 use Rattle.command_devices.specs.Devices.{Gave}
 use Rattle.command_devices.proofs.Devices.{part_written}
-use Rattle.command_devices.proofs.reading.read_behind.Goals as goal
+use Rattle.command_devices.proofs.reading.read_after.Goals as goal
 
 given_behind : (r : Result ℕ Failed) (old new : Option (List ℕ)) (had k : ℕ) (bytes piece : List ℕ) → had ≤ length bytes → IfOk r (λ n. n ≤ length piece)
     → IfOk r (λ n. Gave old new (take n piece)) → IfOk r (λ n. Gave old new (drop had (take (had + n) (put_mid had k bytes piece))))

@@ -3,7 +3,7 @@ use Rattle.std.proofs.lemmas.Int.{ints}
 use Rattle.std.proofs.lemmas.Nat.{le-div}
 use Rattle.std.proofs.Math.Nat.{div-mul-le_self}
 use Rattle.sample_prediction.proofs.Intervals.{alike_at_most}
-use Rattle.sample_prediction.proofs.exponent.alike_behind.Goals as goal
+use Rattle.sample_prediction.proofs.exponent.alike_after.Goals as goal
 
 pub returns-then-predictor-intervals-clause-alike : goal.returns-then-predictor-intervals-clause-alike
 returns-then-predictor-intervals-clause-alike c k l =

@@ -1,7 +1,7 @@
 use Rattle.std.proofs.Common.{◌≡◌}
 use Rattle.block_adaptive.specs.Reading.{site_of, fundamental_at}
 use Rattle.header_bits.proofs.Each.{AreRead}
-use Rattle.block_adaptive.proofs.data_sets.judged_codes.Given as goal
+use Rattle.block_adaptive.proofs.data_sets.checked_codes.Given as goal
 
 abbrev pub invariant-loop-value : goal.invariant-loop-value
 invariant-loop-value l = record {

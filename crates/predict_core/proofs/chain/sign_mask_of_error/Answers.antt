@@ -1,7 +1,7 @@
 use Rattle.std.proofs.Common.{◌≡◌, ◌^◌, ◌*◌, ◌/◌, ◌<◌, ◌≤◌, ℤ, pos, negsuc, ◌-ℤ◌, ◌≤ℤ◌, unsigned_abs, w32, to_z, of_z, arith, rules}
 use Rattle.std.proofs.lemmas.Int.{ints}
 use lib.Signed.{shr_z}
-use Rattle.predict_core.proofs.chain.turn_of_error.Goals as goal
+use Rattle.predict_core.proofs.chain.sign_mask_of_error.Goals as goal
 
 -- a word shifted right by all its bits but the sign
 signs : (v : ℤ) → unsigned_abs v < 2 ^ 31 → (negsuc 0 ≤ℤ to_z w32 (of_z w32 (shr_z v 2147483648))) × (to_z w32 (of_z w32 (shr_z v 2147483648)) ≤ℤ pos 0)
