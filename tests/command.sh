@@ -108,9 +108,9 @@ run 'OUT is a folder' 4 $'ccsds: 19 Write 0\n' expand coded .
 run 'a full device' 4 $'ccsds: 19 Write 0\n' compress $two raw /dev/full
 run 'a full device to expand to' 4 $'ccsds: 19 Write 0\n' expand --bytes 1 coded /dev/full
 "$program" show < small > /dev/full 2> stderr
-check 'a full device behind show' 4 $'ccsds: 19 Write 0\n' $?
+check 'show to a full device' 4 $'ccsds: 19 Write 0\n' $?
 "$program" inspect < coded > /dev/full 2> stderr
-check 'a full device behind inspect' 4 $'ccsds: 19 Write 0\n' $?
+check 'inspect to a full device' 4 $'ccsds: 19 Write 0\n' $?
 
 # ---- OUT is IN by another name: neither is touched
 
@@ -199,7 +199,7 @@ done
 mv bytes raw
 run 'a name without letters' 4 $'ccsds: 18 Read\n' compress $two '' coded
 run 'a word without letters' 1 "$usage" compress $two '' raw coded
-run 'a word without letters, behind show' 1 "$usage" show ''
+run 'a word without letters, after show' 1 "$usage" show ''
 
 # ---- a pipe that nobody reads, and closed streams
 

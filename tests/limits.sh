@@ -21,7 +21,7 @@ for size in 0000 8000 0001; do
     for coding in 080002a09259008226 0c0002a09259000001; do
         header=00$size$size${size}110000$coding
         printf "$(printf %s "$header" | sed 's/../\\x&/g')" > cut
-        run_small "no body behind $header" 2 $'ccsds: 6 Truncated 152\n' expand cut out
+        run_small "no body after $header" 2 $'ccsds: 6 Truncated 152\n' expand cut out
     done
 done
 

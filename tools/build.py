@@ -73,18 +73,18 @@ class Build:
         self.room = room
         self.libraries = libraries_of_crates()
         self.wanted = below(crate, self.libraries)
-        self.behind = self.longest_ways(crate)
+        self.after = self.longest_ways(crate)
         self.ended, self.begun, self.failed = set(), {}, []
         self.printing = threading.Lock()
         self.told = time.monotonic()
 
     def longest_ways(self, crate):
         """Returns, for each crate, the number of lines to prove along the longest chain of dependents that begins with it."""
-        behind = {}
+        after = {}
         for it in reversed([*self.wanted, crate]):
-            above = [behind[one] for one in behind if it in self.libraries[one]]
-            behind[it] = weight_of(it) + max(above, default=0)
-        return behind
+            above = [after[one] for one in after if it in self.libraries[one]]
+            after[it] = weight_of(it) + max(above, default=0)
+        return after
 
     def say(self, text):
         with self.printing:
@@ -93,12 +93,12 @@ class Build:
 
     def build_libraries(self):
         processors = len(os.sched_getaffinity(0))
-        left, running = sorted(self.wanted, key=lambda it: -self.behind[it]), {}
+        left, running = sorted(self.wanted, key=lambda it: -self.after[it]), {}
         with ThreadPoolExecutor(processors) as pool:
             while (left and not self.failed) or running:
                 ready = [it for it in left if self.ended.issuperset(self.libraries[it])]
-                most = max((self.behind[it] for it in [*ready, *running.values()]), default=0)
-                long = [it for it in [*ready, *running.values()] if self.behind[it] >= MUCH * most]
+                most = max((self.after[it] for it in [*ready, *running.values()]), default=0)
+                long = [it for it in [*ready, *running.values()] if self.after[it] >= MUCH * most]
                 for it in ready[: 0 if self.failed else processors - len(running)]:
                     # Crates on a long chain share the processors; each other one gets a single job and a lower priority.
                     is_long = it in long

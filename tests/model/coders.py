@@ -77,7 +77,7 @@ class Block:
         self.block = block
         self.most = (1 << params.bits) - 1
 
-    def judged(self, value):
+    def checked(self, value):
         if value > self.most:
             raise Refusal(f"8 BadOption {self.block}")
         return value
@@ -90,7 +90,7 @@ class Block:
 
     def split(self, k):
         quotients = [self.fundamental(self.most >> k) for _ in range(self.params.size)]
-        return [self.judged((quotient << k) + self.bits.take(k)) for quotient in quotients]
+        return [self.checked((quotient << k) + self.bits.take(k)) for quotient in quotients]
 
     def pair(self):
         number = self.fundamental(2 * self.most * (self.most + 1))
@@ -98,8 +98,8 @@ class Block:
         while (total + 1) * (total + 2) // 2 <= number:
             total += 1
         second = number - total * (total + 1) // 2
-        self.judged(second)
-        return [self.judged(total - second), second]
+        self.checked(second)
+        return [self.checked(total - second), second]
 
     def run(self, left):
         """Takes a run code, and returns the number of its zero blocks."""

@@ -1,4 +1,4 @@
--- What was received of a lane begins what was sent into it.
+-- What was received of a lane is a prefix of what was sent into it.
 use Rattle.std.proofs.Common.{◌≡◌, ℕ, List, [], ◌∷◌, ◌++◌, map, refl, sym, ap, ◌∙◌}
 use Rattle.std.proofs.lemmas.List.{append_assoc, append-nil}
 use Rattle.band_rings.specs.Lane.{Lane, Step, fresh, popped, stepped, after, IsLane, ReceivedIsPrefix, EachLaneIsReached}

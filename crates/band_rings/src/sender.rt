@@ -65,7 +65,7 @@ impl LaneSender {
 
     /// Sends a number, or returns it as an error and changes nothing.
     ///
-    /// It succeeds where fewer numbers than slots were sent so far, and where a slot is known to be free. Once
+    /// It succeeds where fewer numbers than slots were sent so far, or where a slot is known to be free. Once
     /// `u64::MAX` numbers were sent, it always fails.
     pub fn try_send(&mut self, number: u16) -> Result<(), u16>
         ensures lane { (self.new.lane ≡ self.old.lane) × (self.new.slots ≡ self.old.slots) }
@@ -89,7 +89,7 @@ impl LaneSender {
 
     /// Sends all numbers in order and returns true, or sends none and returns false.
     ///
-    /// It succeeds where the numbers sent so far and these together are at most the number of slots, and where
+    /// It succeeds where the numbers sent so far and these together are at most the number of slots, or where
     /// enough slots for these are known to be free. It returns false if more than `u64::MAX` numbers would have
     /// been sent.
     pub fn send_run(&mut self, numbers: &[u16]) -> bool

@@ -50,7 +50,7 @@ data_set_again site s half left (Run n) rest h = run_text_read site s (2 * half)
 data_set_again site s half left RestOfSegment rest h = run_text_read site s (2 * half) left rest_code rest RestOfSegment (rest_again site left rest)
 data_set_again site s half left (Block o vs) rest h = block_again site s half left o vs rest h
 
--- two lawful data sets of which one begins the other are one
+-- two lawful data sets of which one is a prefix of the other are one
 -- any site will do
 abbrev nowhere : Site
 nowhere = record { count = 0; block = 0 }

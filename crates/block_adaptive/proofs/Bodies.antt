@@ -21,7 +21,7 @@ use Rattle.block_adaptive.specs.Laws.{OneBody, ChosenIsBody, BodyIsRead, AreBloc
 use Rattle.block_adaptive.proofs.Again.{data_set_again}
 use Rattle.block_adaptive.proofs.Lawful.{chosen_is_lawful, rest_least}
 use Rattle.header_bits.proofs.Items.{all_take, all_drop}
-use Rattle.header_bits.proofs.Places.{take_behind}
+use Rattle.header_bits.proofs.Places.{take_after}
 
 -- a lawful data set stands for a block or more
 pub data_set_some : (s : CodeSet) (size left : ℕ) (t : CodedDataSet) → IsCodedDataSet s size left t → 1 ≤ blocks_in left t
@@ -88,7 +88,7 @@ first_values size (suc n) numbers h =
           (let whole : length (take size numbers) ≡ size = omega (arith, length-take size numbers) in
           let rest : length (drop size numbers) ≡ length numbers - size = length-drop size numbers in
           let few : length (drop size numbers) ≤ n * size = omega arith in
-          rw (filled_whole size (take size numbers) whole) (take_behind (take size numbers) (values_of (first_blocks size n (drop size numbers)))
+          rw (filled_whole size (take size numbers) whole) (take_after (take size numbers) (values_of (first_blocks size n (drop size numbers)))
           (length numbers) (length (drop size numbers)) (omega arith) ∙ (λ i. take size numbers ++ (first_values size n (drop size numbers) few) i)
           ∙ take-append-drop size numbers))
       | inr few ↦

@@ -27,9 +27,9 @@ below_first s vs sum first longer h j lt =
     let e : first + 1 ≡ suc first = omega arith in
     falls_to _ _ _ _ _ _ h.whole (rw e at h.falling (omega arith)) (omega arith) lt
 
-second_behind : (s : CodeSet) (vs : List ℕ) (sum first : ℕ) (longer : Bool) → IsSearch s vs sum first longer → longer ≡ true
+second_after : (s : CodeSet) (vs : List ℕ) (sum first : ℕ) (longer : Bool) → IsSearch s vs sum first longer → longer ≡ true
     → (0 < splits s) × (cost s (Split first) vs < cost s Second vs)
-second_behind s vs sum first longer h e =
+second_after s vs sum first longer h e =
     let some = h.second e in
     let start = second_longer s vs some.1 in (
       some.0,
@@ -43,12 +43,12 @@ second_behind s vs sum first longer h e =
 pub ended : (s : CodeSet) (vs : List ℕ) (sum first k : ℕ) (longer : Bool) (o : Choice) → IsSearch s vs sum first longer → LeadsTried s vs longer first k o
     → k ≤ splits s → (k < splits s → k ≡ first + 3) → o ≡ chosen_option s vs
 ended s vs sum first k longer o h leads few last =
-    leads_all leads few h.within (below_first s vs sum first longer h) (second_behind s vs sum first longer h) (λ j from in_set.
+    leads_all leads few h.within (below_first s vs sum first longer h) (second_after s vs sum first longer h) (λ j from in_set.
     let end : k ≡ first + 3 = last (omega arith) in
-    let behind : j - (first + 2) + (first + 2) ≡ j = omega arith in
+    let beyond : j - (first + 2) + (first + 2) ≡ j = omega arith in
     let tried = lead_cost _ _ _ _ (leads.leads (Split (first + 2)) (omega arith, omega arith)) in
     let rest = rises_from s (j - (first + 2)) (first + 2) sum vs h.whole (h.rising (omega arith)) in
-    omega (arith, tried, rw behind at rest))
+    omega (arith, tried, rw beyond at rest))
 
 -- ---- values that are less than 1 on average
 

@@ -96,7 +96,7 @@ next_refused v reader e cut few none bad given bits h =
     elim (bind_err _ _ _ bad) [ inl k ↦ k | inr (x, k, m) ↦ absurd (no_step (holding v x.0, x.1) e m) ] in
     body_refused v given bits reader.left reader.count e cut few none h text
 
--- ---- what was appended begins the body
+-- ---- what was appended is a prefix of the body
 
 pub taken_is_prefix : TakenIsPrefix
 unfolding chosen_block_body chosen_data_sets blocks

@@ -7,9 +7,9 @@ use Rattle.std.proofs.lemmas.Grind.{flat_map-append}
 use Rattle.std.proofs.lemmas.List.{append-nil, length-append, length-take, length-drop, take-append-drop, drop-drop}
 use Rattle.header_bits.specs.Bits.{Written, bits_of, fundamental}
 use Rattle.header_bits.proofs.Numbers.{length-bits_of, bits_of-mod}
-use Rattle.header_bits.proofs.Words.{pushed_behind, two_parts}
+use Rattle.header_bits.proofs.Words.{pushed_after, two_parts}
 use Rattle.block_adaptive.specs.Options.{quotient_codes, low_groups}
-use Rattle.block_adaptive.specs.Taken.{Writes, Appends, behind}
+use Rattle.block_adaptive.specs.Taken.{Writes, Appends, extended}
 use Rattle.block_adaptive.proofs.Costs.{length-low_groups}
 
 -- ---- one number
@@ -17,7 +17,7 @@ use Rattle.block_adaptive.proofs.Costs.{length-low_groups}
 module _ {w : Written} {was : List Bool} where
   pub appends_part : (held part n bits : ℕ) → bits < 2 ^ n → held + n ≤ 64 → bits_of held part ≡ was → length was + n ≤ w.room
       → Appends w was w (bits_of (held + n) (bit_or (part * 2 ^ n % 2 ^ 64) bits)) (bits_of n bits)
-  appends_part held part n bits lt few is room = grind (arith, append_assoc, length-bits_of, pushed_behind)
+  appends_part held part n bits lt few is room = grind (arith, append_assoc, length-bits_of, pushed_after)
 
   pub appends_word : {new : Written} → (held part n bits word : ℕ) → held < 64 → 64 - held ≤ n → bits_of held part ≡ was → length was + n ≤ w.room
       → bits_of 64 word ≡ bits_of held part ++ bits_of (64 - held) (bits / 2 ^ (n - (64 - held))) → new.bits ≡ w.bits ++ bits_of 64 word
@@ -52,7 +52,7 @@ module _ {old new last : Written} {now text : List Bool} where
 -- of all bits some were appended, and some are left
 pub record Goes (old : Written) (was : List Bool) (now : Written) (part whole left : List Bool) : Type 0 where
   pub text : (now.bits ++ part) ++ left ≡ (old.bits ++ was) ++ whole
-  pub room : (behind old was).room + length left ≤ (behind now part).room + length whole
+  pub room : (extended old was).room + length left ≤ (extended now part).room + length whole
   pub fits : length part ≤ now.room
 
 module _ {old : Written} {was : List Bool} where

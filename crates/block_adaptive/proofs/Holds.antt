@@ -26,8 +26,8 @@ pub record Puts (list : List ℕ) (old : Packed) (written : List Bool) (new : Pa
   pub puts : PutsAll list old written new now
 
 module _ {old v new : Packed} {written now later : List Bool} where
-  puts_behind : {a : List ℕ} (b : List ℕ) → Puts a old written v now → PutsAll b v now new later → Puts (a ++ b) old written new later
-  puts_behind {a} b first second = record {
+  puts_after : {a : List ℕ} (b : List ℕ) → Puts a old written v now → PutsAll b v now new later → Puts (a ++ b) old written new later
+  puts_after {a} b first second = record {
     puts = λ taken bits h.
         let one = first.puts taken bits h in
         let two = second (taken ++ a) (bits ++ one.0) one.2 in
@@ -40,11 +40,11 @@ module _ {old v new : Packed} {written now later : List Bool} where
       → PutsAll (take count (take (first + size - first) (drop first list))) v now new later → Puts (take (first + count) list) old written new later
   block_more list first size count le h more =
       let e : first + size - first ≡ size = omega arith in
-      rw (take-add first count list) (puts_behind _ h (rw (e, take-take count size (drop first list) le) at more))
+      rw (take-add first count list) (puts_after _ h (rw (e, take-take count size (drop first list) le) at more))
 
   pub number_more : (list : List ℕ) (n : ℕ) → Puts (take n list) old written v now → n < length list → PutsNumber (get_or list n 0) v now new later
       → Puts (take (n + 1) list) old written new later
-  number_more list n h lt number = rw (take_more list n 0 lt) (puts_behind (get_or list n 0 ∷ []) h number)
+  number_more list n h lt number = rw (take_more list n 0 lt) (puts_after (get_or list n 0 ∷ []) h number)
 
 module _ {old v new : Packed} {written now : List Bool} where
   pub hold_more : (list : List ℕ) (first count : ℕ) → Puts (take first list) old written v now
@@ -52,7 +52,7 @@ module _ {old v new : Packed} {written now : List Bool} where
   hold_more list first count h is =
       let e : first + count - first ≡ count = omega arith in
       let here = values_held v new now (take count (drop first list)) (is ∙ (λ i. record v { held = v.held ++ take (e i) (drop first list) })) in
-      rw (take-add first count list) (puts_behind _ h here)
+      rw (take-add first count list) (puts_after _ h here)
 
 -- a refused call leaves what it left before
 module _ {old v : Packed} {list : List ℕ} {written now : List Bool} where

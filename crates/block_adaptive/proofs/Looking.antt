@@ -17,11 +17,11 @@ use Rattle.header_bits.proofs.Zeros.{length-fundamental}
 uses : (a b : Ahead) (text left : List Bool) → b.peeked ≡ a.peeked → b.known + length text ≡ a.known → bits_of a.known a.word ≡ text ++ bits_of b.known b.word
     → IsAhead a left → Uses a b text left
 uses a b text left same size is h =
-    let behind : List Bool = bits_of b.known b.word ++ drop b.peeked left in
-    let whole : drop (used a) left ≡ text ++ behind = h.bits ∙ (λ i. is i ++ drop a.peeked left) ∙ append_assoc text (bits_of b.known b.word)
+    let later : List Bool = bits_of b.known b.word ++ drop b.peeked left in
+    let whole : drop (used a) left ≡ text ++ later = h.bits ∙ (λ i. is i ++ drop a.peeked left) ∙ append_assoc text (bits_of b.known b.word)
     (drop a.peeked left) ∙ (λ i. text ++ (bits_of b.known b.word ++ drop ((sym same) i) left)) in
     let position : used a + length text ≡ used b = omega (arith, h.few) in
-    let rest : drop (used b) left ≡ behind = (λ i. drop ((sym position) i) left) ∙ sym (drop-drop (length text) (used a) left) ∙ ap (drop (length text)) whole
+    let rest : drop (used b) left ≡ later = (λ i. drop ((sym position) i) left) ∙ sym (drop-drop (length text) (used a) left) ∙ ap (drop (length text)) whole
     ∙ drop_at text _ _ refl in
     record {
       ahead = record { few = omega (arith, h.few); most = omega (arith, h.most); enough = omega (arith, h.enough); bits = rest };

@@ -12,7 +12,7 @@ pub record AreParts (c : Cut) (i given counted : ℕ) : Type 0 where
   pub inside : given ≤ c.size
   pub one : (given ≡ c.size) ⊎ (counted ≡ 0)
   pub few : counted ≤ 4096
-  pub behind : c.size - given + counted ≤ i * c.size
+  pub earlier : c.size - given + counted ≤ i * c.size
 
 -- a writer's parts: from block i on nothing was written, of which so many are zeros that are held, fewer than the segment has left;
 -- of the next block so many values are there, fewer than a block has, with this sum

@@ -10,13 +10,13 @@ use Rattle.block_adaptive.specs.DataSets.{CodedDataSet, spelled, spelling, IsCod
 use Rattle.block_adaptive.specs.Reading.{Site, data_set_at, block_body_at}
 use Rattle.block_adaptive.specs.Chosen.{IsChosen, chosen_option, chosen_from, chosen_block_body}
 
--- two lawful data sets of which one begins the other are one data set; a block's size is even
+-- two lawful data sets of which one is a prefix of the other are one data set; a block's size is even
 abbrev pub OneText : Type 0
 OneText =
     (s : CodeSet) (half left : ℕ) (t u : CodedDataSet) (x y : List Bool) → IsCodedDataSet s (2 * half) left t → IsCodedDataSet s (2 * half) left u
     → spelled s t ++ x ≡ spelled s u ++ y → (t ≡ u) × (x ≡ y)
 
--- no body of one list of numbers begins a body of another, as long
+-- no body of one list of numbers is a prefix of a body of another list, as long
 abbrev pub OneBody : Type 0
 OneBody =
     (s : CodeSet) (half reference : ℕ) (ms ns : List ℕ) (a b x y : List Bool) → 1 ≤ half → length ms ≡ length ns
@@ -73,7 +73,7 @@ NoShorterBody =
     (s : CodeSet) (size reference : ℕ) (numbers : List ℕ) (bits : List Bool) → 1 ≤ s.bits → 2 ≤ size → 1 ≤ reference
     → IsBlockBody s size reference numbers bits → 3 * segment_count (length numbers) size reference ≤ length bits
 
--- where a data set is refused none begins the bits; and none does whatever bits follow, unless they were said to end too early
+-- where a data set is refused, the bits begin with none, nor do they with others after them, unless they were refused as truncated
 abbrev pub FaultIsNoDataSet : Type 0
 FaultIsNoDataSet =
     (site : Site) (s : CodeSet) (half left : ℕ) (e : Fault) (bits : List Bool) → data_set_at site s (2 * half) left bits ≡ Err e

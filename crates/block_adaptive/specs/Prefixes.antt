@@ -5,7 +5,7 @@ use Rattle.block_adaptive.specs.Settings.{IsCut}
 use Rattle.block_adaptive.specs.Chosen.{chosen_block_body}
 use Rattle.block_adaptive.specs.Taken.{Packed, HasTaken}
 
--- the bits appended so far begin the chosen body, whatever numbers are still to come
+-- the bits appended so far are a prefix of the chosen body, whatever numbers are still to come
 abbrev pub TakenIsPrefix : Type 0
 TakenIsPrefix =
     (v : Packed) (taken future : List ℕ) (bits : List Bool) → IsCut v.cut → block_count v.cut.size (length (taken ++ future)) ≡ v.cut.count

@@ -13,12 +13,12 @@ pub record Writes (old new : Written) (text : List Bool) : Type 0 where
   pub spent : old.room ≤ new.room + length text
 
 -- a writer with bits after it, for which it has room
-abbrev pub behind : Written → List Bool → Written
-behind w part = record { bits = w.bits ++ part; room = w.room - length part }
+abbrev pub extended : Written → List Bool → Written
+extended w part = record { bits = w.bits ++ part; room = w.room - length part }
 
 -- so too where some bits are gathered after the writer, for which there is still room
 pub record Appends (old : Written) (was : List Bool) (new : Written) (now text : List Bool) : Type 0 where
-  pub writes : Writes (behind old was) (behind new now) text
+  pub writes : Writes (extended old was) (extended new now) text
   pub fits : length now ≤ new.room
 
 -- how the numbers are cut; from which block on nothing was written, and how many blocks of zeros are held there; and the values of the block begun

@@ -49,7 +49,8 @@ pub(crate) fn take_used(reader: &mut BitReader, ahead: Ahead)
     reader.skip(u64::from(ahead.peeked - ahead.known));
 }
 
-/// Returns the fundamental sequence that comes next and the bits after it, if it ends within the bits ahead.
+/// Returns the number of zeros of the fundamental sequence that comes next, and the bits after it, if it ends within the bits
+/// ahead.
 #[inline(always)]
 pub(crate) fn code_ahead(ahead: Ahead) -> Option<(u16, Ahead)>
     requires { IsWord ahead }

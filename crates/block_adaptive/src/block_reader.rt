@@ -97,8 +97,9 @@ impl BlockReader {
     ///
     /// Fewer numbers were returned than all blocks have. Where the reader holds no value, it first reads the
     /// whole next data set. Where no lawful data set comes next, the refusal is that of its first unlawful
-    /// part: `Truncated` if the bits end inside it, `RunPastSegment` for a run code, and `BadOption` for any
-    /// other. The bits then keep their position, nothing else is changed, and every later call returns the same
+    /// part: `Truncated` with the number of bits of the whole input if they end inside it, `RunPastSegment` for a run code, and
+    /// `BadOption` for any other; both name the block at which the data set begins. The reader then keeps its position, nothing
+    /// else is changed, and every later call returns the same
     /// refusal. It allocates nothing.
     #[inline]
     pub fn next(&mut self, reader: &mut BitReader) -> Result<u16, Fault>
@@ -229,7 +230,7 @@ impl BlockReader {
         }
     }
 
-    /// Keeps so many blocks of zeros, as far as the segment goes.
+    /// Keeps so many blocks of zeros, at most as many as the segment has left.
     #[tactic(auto, using(crate::proofs::Handed::rest_most, header_bits::proofs::Places::run_in_hand))]
     fn hold_zeros(&mut self, blocks: u32)
         requires { (0 < blocks) × (blocks ≤ left_at self.old.cut self.old.block) }
@@ -260,7 +261,7 @@ impl BlockReader {
         }
     }
 
-    /// Moves the first values held to the front of `numbers`, and returns how many: as many as there is room for.
+    /// Moves the first values held to the front of `numbers`, and returns how many: all of them, or as many as there is room for.
     #[inline(always)]
     #[tactic(auto, using(std::proofs::lemmas::Grind::common_steps, header_bits::proofs::Places::first_of_hand, header_bits::proofs::Places::zeros_of_hand))]
     fn give_run(&mut self, numbers: &mut [u16]) -> usize

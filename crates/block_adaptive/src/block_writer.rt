@@ -93,8 +93,8 @@ impl BlockWriter {
     /// Takes the next number, and appends the part of the body that is then known.
     ///
     /// Fewer numbers were taken than all blocks have, and the number is at most 2^D - 1. It allocates only
-    /// where the number ends a block. Returns `WantOfMemory` if the allocation fails; then nothing was changed,
-    /// and the call may be repeated.
+    /// where the number ends a block. Returns `WantOfMemory` if the allocation fails, or if there would be more than 2^63 bits;
+    /// then nothing was changed, and the call may be repeated.
     #[inline]
     pub fn put(&mut self, delta: u16, writer: &mut BitWriter) -> Result<(), Fault>
         requires number { delta < 2 ^ self.old.cut.set.bits }
@@ -115,8 +115,8 @@ impl BlockWriter {
         self.put_last(delta, writer)
     }
 
-    /// Takes the next numbers, and appends the part of the body that is then known. Returns how many were
-    /// taken: fewer than all only where an allocation failed for the number after them, which ends a block.
+    /// Takes the next numbers, and appends the part of the body that is then known. Returns how many were taken: fewer than all
+    /// only where `put` would refuse the number after them, which ends a block. The call may then be repeated with those left.
     ///
     /// With these, no more numbers are taken than all blocks have, and each is at most 2^D - 1.
     pub fn put_all(&mut self, numbers: &[u16], writer: &mut BitWriter) -> usize
@@ -209,8 +209,8 @@ impl BlockWriter {
 
     /// Ends the body: appends all that is held, with the block begun filled with zeros.
     ///
-    /// All numbers were taken. It allocates only where they end inside a block. Returns `WantOfMemory` if the
-    /// allocation fails; then nothing was changed, and the call may be repeated.
+    /// All numbers were taken. It allocates only where they end inside a block. Returns `WantOfMemory` if the allocation fails, or
+    /// if there would be more than 2^63 bits; then nothing was changed, and the call may be repeated.
     pub fn end(&mut self, writer: &mut BitWriter) -> Result<(), Fault>
         ensures ended { OnOk result (EndsBody self.old writer.old.bits writer.new.bits) }
         ensures past { OnOk result (self.new ≡ ended self.old) }

@@ -84,8 +84,8 @@ pub fn option_cost(set: &CodeSet, block: &[u16], choice: Choice) -> u64
     }
 }
 
-/// Returns the first k that may have the shortest data set, by the sum of the values: up to it each k is
-/// shorter than the one before, and from two after it on none is.
+/// Returns the first k that may have the shortest data set, by the sum of the values: up to it each k is shorter than the one
+/// before, and from three after it on none is.
 fn first_split(splits: u32, sum: u64, len: u64) -> u32
     requires splits { splits ≤ 14 }
     requires len { len ≤ 64 }
@@ -95,7 +95,7 @@ fn first_split(splits: u32, sum: u64, len: u64) -> u32
     ensures falls { 0 < result → len * 2 ^ (result + 1) < sum }
     ensures rises { result + 1 < splits → sum ≤ len * 2 ^ (result + 2) }
 {
-    // Starting this close leaves about as many steps for each block, which keeps the loop's branch predictable.
+    // Starting this close leaves about the same number of steps for every block, which keeps the loop's branch predictable.
     let mut first = if sum > 0 && len > 0 && splits > 0 {
         sum.ilog2().saturating_sub(len.ilog2() + 2).min(splits - 1)
     } else {
@@ -195,7 +195,7 @@ fn choose_of_small(set: &CodeSet, block: &[u16], total: u32) -> (Choice, u64)
 
 /// Returns the choice for values that are at least 1 on average, in a set with split-sample.
 ///
-/// The second extension isn't shorter than k = 0, and only three k may be the shortest.
+/// The second extension is longer than k = 0, and only three k may be the shortest.
 fn choose_of_large(set: &CodeSet, block: &[u16], total: u32) -> (Choice, u64)
     requires bits { set.now.bits ≤ 16 }
     requires few { length block.now ≤ 64 }

@@ -38,7 +38,7 @@ pub(crate) fn fundamental(reader: &mut BitReader, block: u64, most: u64) -> Resu
 
 /// Reads a fundamental sequence for each value.
 #[inline(always)]
-#[tactic(auto, using(header_bits::proofs::Items::all_weaker, crate::proofs::Bounds::judged_within))]
+#[tactic(auto, using(header_bits::proofs::Items::all_weaker, crate::proofs::Bounds::checked_within))]
 fn quotients(reader: &mut BitReader, block: u64, most: u16, values: &mut [u16]) -> Result<(), Fault>
     ensures read { Reads (λ _. values.new) result reader.new.left (quotients_at (site_of reader.old block) most (length values.old) reader.old.left) }
     ensures count { reader.new.count ≡ reader.old.count }
@@ -222,7 +222,8 @@ pub(crate) fn data_set(
 
 /// Reads one lawful coded data set, that of the block at a position. The values of a block are written.
 ///
-/// The refusal is that of the first unlawful part of the data set, and names the block.
+/// The refusal is that of the first unlawful part of the data set: `BadOption` and `RunPastSegment` name the block, and
+/// `Truncated` how many bits the whole input has.
 #[tactic(auto, using(crate::proofs::Fronts::found_is, crate::proofs::Fronts::none_is, crate::proofs::Lawful::rest_least))]
 pub(crate) fn read_data_set(
     reader: &mut BitReader,

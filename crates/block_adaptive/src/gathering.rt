@@ -10,8 +10,8 @@ use std::marker::Model;
 
 /// Bits that follow those of a writer, fewer than a word.
 ///
-/// A word that is full goes to the writer. Where words alone are pushed, it doesn't depend on the position of a
-/// coded data set which push fills a word of the writer, so that the branch is predicted. Contracts see the bits.
+/// A word that is full goes to the writer. Every push of a whole word fills a word of the writer, wherever a coded data set
+/// begins, so that the branch is predicted. Contracts see the bits.
 #[derive(Drop)]
 pub(crate) struct Gathered {
     /// Its `held` lowest bits are gathered; the bits above those are unspecified.
@@ -90,7 +90,7 @@ impl Gathered {
 
 /// Returns the `held` bits of a word followed by a number's `n` bits.
 #[inline(always)]
-#[tactic(auto, using(header_bits::proofs::Words::pushed_behind, header_bits::proofs::Words::joined_is, header_bits::proofs::Words::joined_below))]
+#[tactic(auto, using(header_bits::proofs::Words::pushed_after, header_bits::proofs::Words::joined_is, header_bits::proofs::Words::joined_below))]
 fn joined(word: u64, held: u32, bits: u64, n: u32) -> u64
     requires few { (n < 64) × (held + n ≤ 64) }
     requires word { word < 2 ^ held }

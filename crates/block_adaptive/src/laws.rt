@@ -27,7 +27,7 @@ pub fn data_set_is_taken()
     ensures { DataSetIsTaken }
 {}
 
-/// No body of one list of numbers is a prefix of a body of another.
+/// No body of one list of numbers is a prefix of a body of another list of the same length.
 pub fn one_body()
     ensures { OneBody }
 {}

@@ -12,7 +12,7 @@ ghost use Rattle.header_bits.specs.Rows.{filled_up, zeros};
 ghost use Rattle.block_adaptive.specs.Rows.{plain, restricted, numbers_read};
 
 /// One number, and a block that zeros fill: k = 4.
-pub fn uncoded_fill_block()
+pub fn filled_block()
     ensures { filled_up (chosen_block_body (plain 8) 8 1 (144 ∷ [])) ≡ bits_of_bytes (0xA0 ∷ 0x0F ∷ 0xF0 ∷ 0x00 ∷ 0x00 ∷ 0x00 ∷ 0x00 ∷ []) }
 {}
 

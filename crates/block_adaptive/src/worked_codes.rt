@@ -19,7 +19,7 @@ pub fn identifiers_of_eight_bits()
     ensures k_4 { identifier (plain 8) (Split 4) ≡ true ∷ false ∷ true ∷ [] }
     ensures k_5 { identifier (plain 8) (Split 5) ≡ true ∷ true ∷ false ∷ [] }
     ensures uncoded { identifier (plain 8) Uncoded ≡ true ∷ true ∷ true ∷ [] }
-    ensures last_k { splits (plain 8) ≡ 6 }
+    ensures count_of_k { splits (plain 8) ≡ 6 }
 {}
 
 /// From nine bits on.
@@ -41,7 +41,7 @@ pub fn identifiers_of_nine_bits()
     ensures k_12 { identifier (plain 9) (Split 12) ≡ true ∷ true ∷ false ∷ true ∷ [] }
     ensures k_13 { identifier (plain 9) (Split 13) ≡ true ∷ true ∷ true ∷ false ∷ [] }
     ensures uncoded { identifier (plain 9) Uncoded ≡ true ∷ true ∷ true ∷ true ∷ [] }
-    ensures last_k { splits (plain 9) ≡ 14 }
+    ensures count_of_k { splits (plain 9) ≡ 14 }
 {}
 
 /// Restricted, at three and four bits.
@@ -51,7 +51,7 @@ pub fn identifiers_of_four_bits()
     ensures k_0 { identifier (restricted 4) (Split 0) ≡ false ∷ true ∷ [] }
     ensures k_1 { identifier (restricted 4) (Split 1) ≡ true ∷ false ∷ [] }
     ensures uncoded { identifier (restricted 4) Uncoded ≡ true ∷ true ∷ [] }
-    ensures last_k { splits (restricted 4) ≡ 2 }
+    ensures count_of_k { splits (restricted 4) ≡ 2 }
 {}
 
 /// Restricted, at two bits.
@@ -59,7 +59,7 @@ pub fn identifiers_of_two_bits()
     ensures zero_blocks { zero_identifier (restricted 2) ≡ false ∷ false ∷ [] }
     ensures second { identifier (restricted 2) Second ≡ false ∷ true ∷ [] }
     ensures uncoded { identifier (restricted 2) Uncoded ≡ true ∷ [] }
-    ensures last_k { splits (restricted 2) ≡ 0 }
+    ensures count_of_k { splits (restricted 2) ≡ 0 }
 {}
 
 /// Runs of one to six blocks, and the rest of a segment.

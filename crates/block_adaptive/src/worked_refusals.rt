@@ -64,7 +64,8 @@ pub fn pair_of_25_zeros()
     ensures { block_body_fault 32 (plain 2) 8 1 1 (bits_of_bytes (0x10 ∷ 0x00 ∷ 0x00 ∷ 0x00 ∷ [])) ≡ Some (BadOption 0) }
 {}
 
-/// Where one block is left, the fifth zero of a run code is refused before any one follows; four are accepted.
+/// Where one block is left, the fifth zero of a run code is refused, whatever follows; after four zeros the bits are only
+/// truncated.
 pub fn fifth_zero_of_a_run_code()
     ensures fifth { block_body_fault 9 (plain 8) 8 1 1 (take 9 (bits_of_bytes (zeros 2))) ≡ Some (RunPastSegment 0) }
     ensures fourth { block_body_fault 8 (plain 8) 8 1 1 (bits_of_bytes (zeros 1)) ≡ Some (Truncated 8) }

@@ -16,7 +16,7 @@ use crate::segments::{Position, blocks_left};
 use cube_core::fault::Fault;
 use header_bits::bit_writer::BitWriter;
 
-/// Appends the values of a block without their k lowest bits, eight at a time.
+/// Appends the fundamental sequences of a block's values without their k lowest bits, eight at a time.
 #[inline(always)]
 fn append_quotients(gathered: &mut Gathered, writer: &mut BitWriter, k: u32, block: &[u16])
     requires k { k ≤ 15 }
@@ -37,7 +37,7 @@ fn append_quotients(gathered: &mut Gathered, writer: &mut BitWriter, k: u32, blo
     }
 }
 
-/// Appends values without their k lowest bits, one at a time.
+/// Appends the fundamental sequences of values without their k lowest bits, one at a time.
 fn append_codes(gathered: &mut Gathered, writer: &mut BitWriter, k: u32, values: &[u16])
     requires k { k ≤ 15 }
     requires room { length gathered.old + length (quotient_codes k values.now) ≤ writer.old.room }
@@ -64,7 +64,7 @@ fn append_lows(gathered: &mut Gathered, writer: &mut BitWriter, k: u32, block: &
     }
 }
 
-/// Appends the pairs of a block.
+/// Appends the fundamental sequences of a block's pairs.
 fn append_pairs(gathered: &mut Gathered, writer: &mut BitWriter, block: &[u16])
     requires even { length block.now % 2 ≡ 0 }
     requires room { length gathered.old + length (pair_codes block.now) ≤ writer.old.room }

@@ -39,8 +39,8 @@ fn words(rt: &HostRuntime) -> Result<Vec<String>, Fault> {
     }
 }
 
-/// Prints the fault's line on standard error, and returns its exit status. If the line can't be allocated,
-/// nothing is printed.
+/// Prints the fault's line on standard error, and returns its exit status. If the line can't be allocated, nothing is printed, and
+/// the status is that of `WantOfMemory`.
 fn report(rt: &HostRuntime, fault: &Fault) -> ExitCode
     ensures { (exit_status result ≡ status fault.now) ⊎ (exit_status result ≡ status WantOfMemory) }
 {

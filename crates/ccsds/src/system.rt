@@ -12,7 +12,7 @@ use std::fs::{self, File};
 use std::io::{self, Printer, Read, Stdin, Write};
 use std::os::unix::fs::MetadataExt;
 
-/// The system, with what the program was started with.
+/// The system, reached through the runtime that `main` was given.
 #[derive(Drop)]
 pub(crate) struct System<'a> {
     pub rt: &'a HostRuntime,

@@ -92,7 +92,7 @@ ReadsFile (Compress settings from to) = ⊥
 ReadsFile (Expand layout from to) = ⊤
 ReadsFile Inspect = ⊤
 
--- a file that is too long is never told as want of memory: where memory was refused, fewer bytes came
+-- where memory is refused for a coded file, fewer bytes came than make it too long
 abbrev pub IsUnfilled : Settings → Option (List ℕ) → Option (List ℕ) → Fault → Type 0
 IsUnfilled settings left left_now fault = ReadsFile settings → fault ≡ WantOfMemory → GaveBelow file_limit left left_now
 

@@ -30,7 +30,7 @@ use std::thread::Threads;
 
 /// Runs the command that words ask for, between the ends that they name.
 ///
-/// Returns `Usage` if they ask for none; `WantOfMemory` if an allocation fails; and, if an end can't be opened,
+/// Returns `Usage` if they ask for none; `WantOfMemory` if the settings can't be allocated; and, if an end can't be opened,
 /// the refusal of `run_command`. Otherwise it returns the ends with the command's own result.
 pub fn run_words<R: Threads + Wait + Sync, O: Opener>(
     rt: &R,

@@ -18,7 +18,8 @@ use header_bits::header::read_header;
 use header_bits::params::Params;
 use std::alloc::Global;
 
-/// Reads a file, and writes a line for each field of its header: a name, a space and the value.
+/// Reads a file, and writes a line for each field of its header, a name, a space and the value, and a last line with the header's
+/// length in bytes.
 ///
 /// The whole file is read, and only its header is decoded. Returns `Read` if the source fails, or has more than
 /// 2^40 bytes; the refusals of `read_header`; `WantOfMemory` if an allocation fails; and `Write`, with the

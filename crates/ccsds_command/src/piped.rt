@@ -27,10 +27,11 @@ use std::thread::Threads;
 /// Reads a cube's raw bytes, codes the cube with predictors in threads of their own, and writes the file, which
 /// is that of `run_compress`.
 ///
-/// Before anything is read, it refuses unlawful parameters (`FieldRange`, `Disagree`), and then numbers of
-/// predictors and slots that no plan may have. Band z goes to predictor z mod their number. The other refusals
-/// are those of `run_compress`; `SpawnRefused` if a thread wasn't started; and `Stopped` if the gate stopped a
-/// predictor. After any refusal but `Write` nothing was written.
+/// Before anything is read, it refuses unlawful parameters (`FieldRange`, `Disagree`), then numbers of predictors
+/// and slots that no plan may have (`FieldRange` of `Predictors` or `Slots`), and it returns `WantOfMemory` if the
+/// plan can't be allocated. Band z goes to predictor z mod their number. The other refusals are those of
+/// `run_compress`; `SpawnRefused` if a thread wasn't started; and `Stopped` if the gate stopped a predictor. After any
+/// refusal but `Write` nothing was written.
 #[tactic(auto, unfolding(crate::specs::Compress::Compresses, crate::specs::Piped::IsPipedFault))]
 pub fn run_piped<R: Threads + Wait + Sync, S: Source, K: Sink, G: Gate + Sync>(
     rt: &R,
@@ -76,7 +77,7 @@ fn plan_of(alloc: Global, settings: &CompressSettings) -> Result<Plan, Fault>
     )
 }
 
-/// Returns the predictor of each band, where the numbers of predictors and slots are in range.
+/// Returns the predictor of each band, where the numbers of predictors and slots are in range; otherwise an empty list.
 fn dealt(alloc: Global, settings: &CompressSettings) -> Result<Vec<u8>, Fault>
     ensures deal { IfOk result (λ deal. deal.items ≡ deal_of settings.now) }
     ensures refused { IfErr result (λ e. e ≡ WantOfMemory) }

@@ -8,7 +8,7 @@ use Rattle.header_bits.specs.Header.{header_at}
 use Rattle.header_bits.proofs.Fronts.{bind_ok}
 use Rattle.header_bits.proofs.HeaderTexts.{read_lawful}
 use Rattle.header_bits.proofs.Reading.{ok_is}
-use Rattle.file_decoding.specs.Files.{behind_body, fill_test, body_test, head_at, file_test}
+use Rattle.file_decoding.specs.Files.{after_body, fill_test, body_test, head_at, file_test}
 use Rattle.file_decoding.specs.Least.{least_test}
 use Rattle.file_decoding.specs.Laws.{FineIsFile}
 use Rattle.file_decoding.proofs.FileLaws.{numbers_at, are_bodies}
@@ -26,7 +26,7 @@ head_read bits x e =
     a.1 ∙ ap (λ (y : Params × List Bool). Ok y) (passes_on _ _ a.0 x a.2)
 
 pub fine_is_file : FineIsFile
-unfolding file_test body_test behind_body
+unfolding file_test body_test after_body
 fine_is_file bytes e =
     let bits : List Bool = bits_of_bytes bytes in
     let a = bind_ok (head_at bits) (λ header. body_test (length bits) header.0 header.1) tt e in
@@ -34,8 +34,8 @@ fine_is_file bytes e =
     let header = head_read bits a.0 a.1 in
     let lawful = read_lawful p bits a.0.1 header in
     let bodies = are_bodies p lawful in
-    let b = bind_ok (behind_body (length bits) p a.0.1) (λ rest. fill_test p.word rest) tt a.2 in
-    let d = bind_ok (numbers_at p.coder (length bits) p a.0.1) (λ read. Ok read.1) b.0 (sym (bodies.behind (length bits) a.0.1) ∙ b.1) in
+    let b = bind_ok (after_body (length bits) p a.0.1) (λ rest. fill_test p.word rest) tt a.2 in
+    let d = bind_ok (numbers_at p.coder (length bits) p a.0.1) (λ read. Ok read.1) b.0 (sym (bodies.left_over (length bits) a.0.1) ∙ b.1) in
     let read = (bodies.exact (length bits)).found d.0.0 a.0.1 d.0.1 d.1 in
     let made = built p d.0.0 lawful read.1.0 read.1.1 in
     let text = read.2 ∙ ap (λ (left : List Bool). read.0 ++ left) (ok_is d.0.1 b.0 d.2) in (

@@ -64,9 +64,9 @@ part_run q owner os ns (n ∷ run) at =
     let grown : length (ns ++ n ∷ []) ≡ length ns + 1 = length-append ns (n ∷ []) in
     let later : (i : ℕ) → i < length run → slice_get os (length (ns ++ n ∷ []) + i) ≡ Some owner =
     λ i lt. (let to : length (ns ++ n ∷ []) + i ≡ length ns + suc i = omega (arith, grown) in rw to (at (suc i) (omega (arith, lt)))) in
-    let behind = part_run q owner os (ns ++ n ∷ []) run later in
+    let rest = part_run q owner os (ns ++ n ∷ []) run later in
     let one = part_push q os ns owner n first in
-    ap (λ xs. part q os xs) (sym (append_assoc ns (n ∷ []) run)) ∙ behind ∙ rw one (
+    ap (λ xs. part q os xs) (sym (append_assoc ns (n ∷ []) run)) ∙ rest ∙ rw one (
     elim (cases_Bool (owner == q)) [ inl t ↦ rw (t, append_assoc) refl | inr t ↦ rw (t, append-nil, append-nil) refl ])
 
 more_run : (handed : List (List ℕ)) (os ns run : List ℕ) (o k : ℕ) → o < length handed → ((i : ℕ) → i < length run → slice_get os (length ns + i) ≡ Some o)

@@ -67,10 +67,10 @@ row_next s o w place i h along next more =
     let there = (place_within s o w 0 place h next).0 in
     let at : place_index s o place ≡ h.gone + 0 = index_of_item s o place (h.gone + 0) h.order (place_item s o w 0 place h next) in
     let on = columns_along s o place i along there in
-    let behind : IsPlaceOf s q = record { band = there.band; row = there.row; column = more } in
-    let below = place_index_below s o q h.order behind in
+    let later : IsPlaceOf s q = record { band = there.band; row = there.row; column = more } in
+    let below = place_index_below s o q h.order later in
     ap (λ left. slice_get left i) h.left ∙ get_drop (places s o) h.gone i
-    ∙ item_from_index s o q (h.gone + i) h.order behind (on ∙ omega (arith, at)) (omega (arith, at, on, below))
+    ∙ item_from_index s o q (h.gone + i) h.order later (on ∙ omega (arith, at)) (omega (arith, at, on, below))
 
 pub row_owned : (s : Sizes) (o : Order) (w : Weaving) (place : Place) (count : ℕ) → IsAlong s o w → goes_along_rows o ≡ true
     → Some place ≡ slice_get w.end.left 0 → place.x + count ≤ s.columns → (p : Params) (deal numbers : List ℕ) → HasWoven p deal w numbers

@@ -38,11 +38,11 @@ takes_more old new xs ys a h =
 takes_none : (e : Ending) → MayCodeAll e [] → Takes e e true []
 takes_none e h all p numbers coded = subst (HasCoded p e) (sym (append-nil numbers)) coded
 
-takes_behind : (old mid new : Ending) (all : Bool) (xs ys : List ℕ) → Takes old mid true xs → Takes mid new all ys → Takes old new all (xs ++ ys)
-takes_behind old mid new all xs ys a b h p numbers coded = subst (HasCoded p new) (append_assoc numbers xs ys) (b h p (numbers ++ xs) (a refl p numbers coded))
+takes_append : (old mid new : Ending) (all : Bool) (xs ys : List ℕ) → Takes old mid true xs → Takes mid new all ys → Takes old new all (xs ++ ys)
+takes_append old mid new all xs ys a b h p numbers coded = subst (HasCoded p new) (append_assoc numbers xs ys) (b h p (numbers ++ xs) (a refl p numbers coded))
 
 takes_cut : (old new : Ending) (xs ys : List ℕ) → Takes old new false xs → Takes old new false (xs ++ ys)
 takes_cut old new xs ys a h = absurd (cc)
 
 pub codings_are : AreTakings {S = Ending} (λ e list. MayCodeAll e list) (λ old new all list. Takes old new all list)
-codings_are = record { less = takes_less; more = takes_more; none = takes_none; behind = takes_behind; cut = takes_cut }
+codings_are = record { less = takes_less; more = takes_more; none = takes_none; append = takes_append; cut = takes_cut }

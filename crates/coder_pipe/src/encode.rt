@@ -16,7 +16,7 @@ use std::alloc::Global;
 
 /// Returns the file of a cube, for lawful parameters of its shape and kind, with the coder that they name.
 ///
-/// Returns `WantOfMemory` if the output or the predictors' state can't be allocated.
+/// Returns `WantOfMemory` if the output, or the state of the predictors or of the coder, can't be allocated.
 pub fn encode_one(alloc: Global, cube: &Cube, params: &Params) -> Result<Vec<u8>, Fault>
     requires lawful { IsLawful params.now }
     requires shape { cube.now.shape ≡ params.now.shape }

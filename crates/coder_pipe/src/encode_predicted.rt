@@ -20,7 +20,8 @@ use std::thread::Threads;
 /// Each predictor's residuals were received once each, in the order sent, and none is left; they are those of
 /// its bands. The bytes are those that `encode_one` returns, and `decode` returns the cube and its parameters
 /// from them, unless an allocation fails. The refusals are `WantOfMemory`; `SpawnRefused` if a thread wasn't
-/// started; and `Stopped`, only where the gate may stop a predictor at a residual of its part.
+/// started; and `Stopped`, only where the gate may stop a predictor at a residual of its part. All workers that were
+/// started have then been joined.
 pub fn encode_predicted<R: Threads + Wait + Sync, G: Gate + Sync>(
     rt: &R,
     alloc: Global,

@@ -37,8 +37,8 @@ pub struct Piped {
 /// The plan is for these parameters, and there is one feed for each predictor, in order. Each feed states a
 /// list as long as its predictor's part of an image's residuals, each at most 2^D - 1, runs in a thread of its
 /// own, and is consumed whatever the result; the calling thread codes while they send. It sees no cube. The
-/// refusals are `WantOfMemory`; `SpawnRefused` if a thread wasn't started; and `Stopped`, with the first
-/// predictor that the gate stopped and how many residuals it had sent. All workers that were started have then
+/// refusals are `WantOfMemory`; `SpawnRefused` if a thread wasn't started; and `Stopped`, with the least number of
+/// a predictor that the gate stopped and how many residuals it had sent. All workers that were started have then
 /// been joined.
 pub fn encode_piped<R: Threads + Wait + Sync, F: Feed + Send, G: Gate + Sync>(
     rt: &R,
@@ -93,7 +93,7 @@ fn in_threads<R: Threads + Wait + Sync, F: Feed + Send, G: Gate + Sync>(
     )
 }
 
-/// What the coding end allocates.
+/// What the calling thread allocates before it starts the workers.
 #[derive(Drop)]
 struct Room<F: Feed, G: Gate> {
     stages: Vec<Stage<F, G>>,

@@ -75,7 +75,7 @@ pub(crate) fn weave<R: Threads + Wait, F: Feed, G: Gate>(
     Woven::Whole
 }
 
-/// Receives what it sees of a worker, and drops it.
+/// Drops the numbers of a worker that wait, and receives those that it sees in their place.
 fn skip_one<F: Feed, G: Gate>(stages: &mut Vec<Stage<F, G>>, q: usize)
     requires { q < vec_len stages.old }
     ensures feeds { feeds_of stages.new.items ≡ feeds_of stages.old.items }
@@ -158,7 +158,7 @@ pub(crate) fn finish_all<R: Threads, F: Feed, G: Gate>(
     lanes
 }
 
-/// Joins all workers, and returns the first that was stopped.
+/// Joins all workers, and returns the stopped one with the least number.
 pub(crate) fn stop_all<R: Threads, F: Feed, G: Gate>(
     rt: &R,
     stages: Vec<Stage<F, G>>,
@@ -176,7 +176,7 @@ pub(crate) fn stop_all<R: Threads, F: Feed, G: Gate>(
     first
 }
 
-/// Returns who was stopped first, once predictor `q` has ended.
+/// Returns the stopped predictor with the least number, once predictor `q` has ended.
 fn first_of(first: Option<(u32, u64)>, q: u32, sent: Option<u64>) -> Option<(u32, u64)>
     ensures { IfSome result (λ r. (first ≡ Some r) ⊎ ((r.0 ≡ q) × (sent ≡ Some r.1))) }
 {

@@ -65,8 +65,8 @@ impl Weaver {
         Some(u32::from(self.deal[place.z as usize]))
     }
 
-    /// Returns how many of the next places belong to one predictor, at most `most`: where places go along rows,
-    /// those of the row. It is at least one where there is a next place.
+    /// Returns a number of next places that all belong to one predictor, at most `most`: the rest of the row where places go
+    /// along rows, and otherwise one. It is 0 only where there is no next place.
     pub fn wanted_run(&self, most: usize) -> usize
         requires { 0 < most }
         ensures most { result ≤ most }
@@ -118,8 +118,7 @@ impl Weaver {
 
     /// Takes the next residuals, each of which is at most 2^D - 1. At least as many are still to come.
     ///
-    /// Returns `WantOfMemory` if an allocation fails; then the first of them were taken, as many as there was
-    /// memory for.
+    /// Returns `WantOfMemory` if an allocation fails; then some of the first were taken, or none.
     pub fn take_all(&mut self, residuals: &[u16]) -> Result<(), Fault>
         requires { MayCodeAll self.old.end residuals.now }
         ensures woven { OnOk result (WeavesAll self.old self.new residuals.now) }

@@ -60,11 +60,11 @@ pub front_kept : (had : ℕ) (old new : List ℕ) → had ≤ length old → tak
 front_kept had old new h kept = sym (take-take had (length old) new h) ∙ ap (λ (x : List ℕ). take had x) kept
 
 -- what is copied from the front of what a source has left was given
-pub cut_gave : (left given rest : List ℕ) (n : ℕ) (behind : List ℕ) → given ≡ take n left → rest ≡ drop n left → n ≤ length left
-    → Gave (Some left) (Some rest) (take n (given ++ behind))
-cut_gave left given rest n behind front back within before e =
+pub cut_gave : (left given rest : List ℕ) (n : ℕ) (later : List ℕ) → given ≡ take n left → rest ≡ drop n left → n ≤ length left
+    → Gave (Some left) (Some rest) (take n (given ++ later))
+cut_gave left given rest n later front back within before e =
     let long : length given ≡ n = ap (λ (x : List ℕ). length x) front ∙ omega (arith, length-take n left) in
-    let all : take n (given ++ behind) ≡ take n left = take_at given behind n long ∙ front in
+    let all : take n (given ++ later) ≡ take n left = take_at given later n long ∙ front in
     (rest, refl, rw (all, back) (sym (same_Some left before e) ∙ sym (take-append-drop n left)))
 
 -- bytes fewer than the limit, with which reading ended, are all of them

@@ -80,7 +80,7 @@ impl Source for CutSource<'_> {
 
 /// A sink that takes bytes into memory, at most `piece` in a call; call `fail_at`, counted from 0, fails.
 ///
-/// A call also fails if the piece doesn't fit in the room.
+/// A call also fails if there is no room for what it would take of the piece.
 #[derive(Drop)]
 pub struct CutSink {
     taken: Vec<u8>,

@@ -16,7 +16,8 @@ pub trait InputDevice {
 
     ghost answers: { Self → ℕ → Option (List ℕ) → Self → Type 0 } = { λ _ _ _ _. ⊤ };
 
-    /// Writes the next bytes to the front of the buffer, and returns how many.
+    /// Writes the next bytes to the front of the buffer, and returns how many: 0 for a buffer that isn't empty only at the end. A
+    /// call that fails gives none.
     fn read(&mut self, buffer: &mut [u8]) -> io::Result<usize>
         ensures within { ReadsAtMost result buffer.new }
         ensures bytes { ReadConsumes (remaining self.old) (remaining self.new) result buffer.new }
@@ -34,7 +35,7 @@ pub trait OutputDevice {
 
     ghost answers: { Self → List ℕ → Option ℕ → Self → Type 0 } = { λ _ _ _ _. ⊤ };
 
-    /// Takes bytes from the front of the piece, and returns how many.
+    /// Takes bytes from the front of the piece, and returns how many. A call that fails takes none.
     fn write(&mut self, piece: &[u8]) -> io::Result<usize>
         ensures within { WritesAtMost result piece.now }
         ensures bytes { WriteAppends (contents self.old) (contents self.new) result piece.now }

@@ -9,13 +9,13 @@ use crate::source::{Failed, Source};
 use cube_core::fault::Fault;
 use std::alloc::Global;
 
-/// The least number of bytes that is requested at once, where the limit allows it.
+/// The least number of bytes by which the buffer grows, where the limit allows it.
 const PIECE: usize = 1 << 16;
 
 /// The greatest number of bytes that a file may have.
 const FILE_LIMIT: u64 = 1 << 40;
 
-/// Reads a file to the source's end: at most 2^40 bytes.
+/// Reads a file to the source's end: at most 2^40 bytes. It takes no more than one byte beyond them from the source.
 ///
 /// Returns `Read` if the source fails, or has more bytes; `WantOfMemory` if an allocation fails. The bytes read
 /// by then are dropped.
@@ -38,7 +38,7 @@ pub fn read_file<S: Source>(alloc: Global, source: &mut S) -> Result<Vec<u8>, Fa
 
 /// Reads to the source's end, and no more than `limit` bytes.
 ///
-/// The memory grows with the bytes that came, and is never allocated for bytes that were only announced.
+/// The buffer grows by as many bytes as came, or by 65,536 where these are more, and never past the limit.
 /// Returns `Read` if the source fails; `WantOfMemory` if an allocation fails. The bytes read by then are
 /// dropped.
 pub fn read_up_to<S: Source>(alloc: Global, source: &mut S, limit: u64) -> Result<Vec<u8>, Fault>

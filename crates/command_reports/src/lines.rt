@@ -17,8 +17,8 @@ use header_bits::params::{Coder, CountStart, Params, WeightStart};
 use std::alloc::Global;
 use std::fmt::Display;
 
-/// Returns a line for each field of a header with these parameters and `size` bytes. Returns `WantOfMemory` if
-/// the text can't be allocated.
+/// Returns a line for each field of a header with these parameters and `size` bytes, and a last line with this size. Returns
+/// `WantOfMemory` if the text can't be allocated.
 pub fn header_lines(alloc: Global, params: &Params, size: usize) -> Result<Vec<u8>, Fault>
     requires { IsLawful params.now }
     ensures lines { IfOk result (λ text. text.items ≡ lines_of params.now size) }

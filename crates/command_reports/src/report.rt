@@ -29,7 +29,7 @@ pub fn fault_line(alloc: Global, fault: &Fault) -> Result<Vec<u8>, Fault>
     ensures line { IfOk result (λ line. (told : List ℕ) × (line.items ≡ codes "ccsds: " ++ told ++ 10 ∷ [])) }
     ensures refused { IfErr result (λ e. e ≡ WantOfMemory) }
 {
-    // No contract knows what a fault's text is, but what comes before and after it.
+    // Contracts don't say what a fault's text is, only what comes before and after it.
     let told = format!(in alloc; "{fault}")?;
     let line = format!(in alloc; "ccsds: {told}\n")?;
     Ok(line.into_bytes())

@@ -11,7 +11,7 @@ pub struct CompressSettings {
     pub layout: Layout,
     /// How many predictors run in threads of their own, at most 64; with 0 the cube is coded on one thread.
     pub predictors: u32,
-    /// How many residuals a predictor may be ahead of the coding end, at most 65,536.
+    /// How many residuals a predictor's lane has room for, 1 to 65,536.
     pub slots: u32,
 }
 

@@ -39,21 +39,21 @@ unfolding clap_on_literals compress_app image_rules sizes options flags layout_r
 compress_is_free = refl
 
 -- with the rules of xs from place i on, and these after them, the command has all that it is to have
-pub record Leads {X : Type 0} (rule : X → Rule) (xs : List X) (i : ℕ) (behind : List Rule) (c : Command) (all : App) : Type 0 where
-  pub leads : with_rules (app_of c) (map rule (drop i xs) ++ behind) ≡ all
+pub record Leads {X : Type 0} (rule : X → Rule) (xs : List X) (i : ℕ) (later : List Rule) (c : Command) (all : App) : Type 0 where
+  pub leads : with_rules (app_of c) (map rule (drop i xs) ++ later) ≡ all
 
 -- a step takes the next rule
-pub next : {X : Type 0} {rule : X → Rule} {xs : List X} {i : ℕ} (d : X) {behind : List Rule} {old new : Command} {a : Arg} {all : App}
-    → Leads rule xs i behind old all → i < length xs → AddsArg old a new → rule_of a ≡ rule (get_or xs i d) → ((x : X) → (rule x).is_simple ≡ true)
-    → Leads rule xs (i + 1) behind new all
-next {rule = rule} {xs = xs} {i = i} d {behind = behind} {old = old} {new = new} {all = all} before lt adds is simple =
+pub next : {X : Type 0} {rule : X → Rule} {xs : List X} {i : ℕ} (d : X) {later : List Rule} {old new : Command} {a : Arg} {all : App}
+    → Leads rule xs i later old all → i < length xs → AddsArg old a new → rule_of a ≡ rule (get_or xs i d) → ((x : X) → (rule x).is_simple ≡ true)
+    → Leads rule xs (i + 1) later new all
+next {rule = rule} {xs = xs} {i = i} d {later = later} {old = old} {new = new} {all = all} before lt adds is simple =
     let added : app_of new ≡ with_rule (app_of old) (rule (get_or xs i d)) = one_more adds is (simple _) refl in
-    let first : with_rules (app_of old) (rule (get_or xs i d) ∷ map rule (drop (suc i) xs) ++ behind) ≡ all =
-    ap (λ ys. with_rules (app_of old) (map rule ys ++ behind)) (sym (drop-cons xs i d lt)) ∙ before.leads in
+    let first : with_rules (app_of old) (rule (get_or xs i d) ∷ map rule (drop (suc i) xs) ++ later) ≡ all =
+    ap (λ ys. with_rules (app_of old) (map rule ys ++ later)) (sym (drop-cons xs i d lt)) ∙ before.leads in
     record { leads = rw (add-one, added) first }
 
 -- after the last of xs come the others
-pub over : {X : Type 0} {rule : X → Rule} {xs : List X} {i : ℕ} {behind : List Rule} {c : Command} {all : App}
-    → Leads rule xs i behind c all → length xs ≤ i → with_rules (app_of c) behind ≡ all
-over {rule = rule} {xs = xs} {i = i} {behind = behind} {c = c} before past =
-    ap (λ ys. with_rules (app_of c) (map rule ys ++ behind)) (sym (drop_all i xs past)) ∙ before.leads
+pub over : {X : Type 0} {rule : X → Rule} {xs : List X} {i : ℕ} {later : List Rule} {c : Command} {all : App}
+    → Leads rule xs i later c all → length xs ≤ i → with_rules (app_of c) later ≡ all
+over {rule = rule} {xs = xs} {i = i} {later = later} {c = c} before past =
+    ap (λ ys. with_rules (app_of c) (map rule ys ++ later)) (sym (drop_all i xs past)) ∙ before.leads

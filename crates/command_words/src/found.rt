@@ -43,7 +43,7 @@ fn between(matches: &ArgMatches<'_>, name: &str, least: u32, most: u32) -> Resul
     }
 }
 
-/// Returns a weight update scaling exponent, which is given as its code.
+/// Returns a weight update scaling exponent, which is given as its code, the exponent plus 6.
 pub(crate) fn exponent(matches: &ArgMatches<'_>, name: &str, codes: Range) -> Result<i32, Fault>
     requires { (codes.least ≡ 0) × (codes.most ≡ 15) }
     ensures range { IfOk result IsExponent }

@@ -60,11 +60,11 @@ macro_rules! options {
             (fields::REGISTER.name, "64"),
             // fractional bits of a weight [weight component resolution Ω]
             (fields::OMEGA.name, "13"),
-            // how long weights keep one step size: 2 to this many samples [log2 t_inc]
+            // weights keep one step size for two to the power of this many samples [log2 t_inc]
             ("interval-log", "6"),
-            // the first step size's exponent plus 6 [v_min + 6]
+            // the first scaling exponent of the weight update plus 6 [v_min + 6]; a greater one is a smaller step
             ("vmin-code", "5"),
-            // the last step size's exponent plus 6 [v_max + 6]; not below `--vmin-code`
+            // the last scaling exponent of the weight update plus 6 [v_max + 6]; not below `--vmin-code`
             ("vmax-code", "9"),
             // the entropy coder: sample-adaptive or block-adaptive
             (fields::CODER.name, "sample"),
@@ -72,7 +72,7 @@ macro_rules! options {
             (fields::UMAX.name, "16"),
             // how soon the statistics are halved [rescaling counter size γ*]; above `--gamma-zero`
             (fields::GAMMA_STAR.name, "6"),
-            // how much the start weighs [initial count exponent γ_0]
+            // how much the start weighs [initial count exponent γ₀]
             (fields::GAMMA_ZERO.name, "1"),
             // the code parameter to begin with [accumulator initialization constant K]; at most `bits` − 2
             (fields::CONSTANT.name, "3"),
@@ -83,8 +83,8 @@ macro_rules! options {
             // predictors that run in threads of their own, beside the one that codes; with 0 all is done on one thread.
             // Band z goes to predictor z mod their number
             ("predictors", "0"),
-            // how many residuals a predictor may be ahead of the coding; used only with predictors, but checked in any
-            // case
+            // how many residuals the lane of a predictor has room for, before it waits for the coding; used only with
+            // predictors, but checked in any case
             ("slots", "1024"),
         ]
     };

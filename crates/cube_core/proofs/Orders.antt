@@ -206,8 +206,8 @@ interleaved_place_is s depth i r g q size some_bands some_columns h lt r_is g_is
     let group : (g * depth + q % size) / depth ≡ g = div-mul-add g depth (q % size) (omega arith) in
     let inner : q / size * size + q % size ≡ q = div-add-mod' q size in
     let outer : i / (s.bands * s.columns) * (s.bands * s.columns) + r ≡ i = rw r_is (div-add-mod' i (s.bands * s.columns)) in
-    let behind : g * depth + q % size - g * depth ≡ q % size = omega arith in
-    (record { place = record { band = omega arith; row = y; column = x }; index = rw (group, ← size_is, behind, inner) (omega arith) }, first, positive)
+    let later : g * depth + q % size - g * depth ≡ q % size = omega arith in
+    (record { place = record { band = omega arith; row = y; column = x }; index = rw (group, ← size_is, later, inner) (omega arith) }, first, positive)
 
 -- the same of numbers that are these sizes
 pub interleaved_found : (s : Sizes) (depth i b c m size : ℕ) → 1 ≤ s.bands → 1 ≤ s.columns → 1 ≤ depth → i < sample_count s → b ≡ s.bands

@@ -61,8 +61,8 @@ module _ {s : Sizes} {o : Order} {q : Place} {width depth : ℕ} (lawful : IsOrd
       forth : place_index s o r < place_index s o q + m → time_of s r < t
       forth h = elim (cases_lt (place_index s o r) (place_index s o q)) [
         | inl before ↦ (come r there e).0 before
-        | inr behind ↦
-            (let f = found_in lawful is r there behind (omega (arith, h, le)) in
+        | inr rest ↦
+            (let f = found_in lawful is r there rest (omega (arith, h, le)) in
             absurd (apart f.0 (omega (arith, f.3, h)) f.1 (sym e ∙ ap (λ (r : Place). r.z) f.2)))
       ]
 
@@ -87,7 +87,7 @@ module _ {s : Sizes} {o : Order} {q : Place} {width depth : ℕ} (lawful : IsOrd
       forth : place_index s o r < place_index s o q + width * depth → time_of s r < time_of s q + width
       forth h = elim (cases_lt (place_index s o r) (place_index s o q)) [
         | inl before ↦ (let g = (come r there e).0 before in omega (arith, g, time_at low high))
-        | inr behind ↦ (let f = found_in lawful is r there behind h in omega (arith, ap (time_of s) f.2, f.1.column))
+        | inr rest ↦ (let f = found_in lawful is r there rest h in omega (arith, ap (time_of s) f.2, f.1.column))
       ]
 
       back : time_of s r < time_of s q + width → place_index s o r < place_index s o q + width * depth

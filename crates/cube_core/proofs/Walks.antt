@@ -124,10 +124,10 @@ next_in_row s depth p h spot last more =
     let low : p.place.z / depth * depth ≤ p.place.z = div-mul-le_self p.place.z depth in
     let high : p.place.z < p.place.z / depth * depth + depth = lt-div-mul-add h in
     let kept : p.first ≡ p.first / depth * depth = group_kept depth p.first p.place.z p.first spot.1 (omega arith) (omega arith) in
-    let behind : p.place.z - p.first + 1 ≡ min depth (s.bands - p.first) = omega (arith, spot.1, spot.2, spot.0.band) in (
+    let later : p.place.z - p.first + 1 ≡ min depth (s.bands - p.first) = omega (arith, spot.1, spot.2, spot.0.band) in (
       (record { band = omega (arith, spot.1, spot.0.band); row = spot.0.row; column = more }, kept, spot.2),
       index_in_group s depth p.first (record { z = p.first; y = p.place.y; x = p.place.x + 1 }) kept
-          ∙ sym (ap (λ n. n + 1) (index_in_group s depth p.first p.place spot.1) ∙ omega (arith, behind)),
+          ∙ sym (ap (λ n. n + 1) (index_in_group s depth p.first p.place spot.1) ∙ omega (arith, later)),
     )
 
 -- the next group's first band, in the first column
@@ -139,12 +139,12 @@ next_group s depth p h spot last column more =
     let next : p.end ≡ p.end / depth * depth = subst (λ (n : ℕ). n ≡ n / depth * depth) end (group_next depth p.first p.place.z h spot.1) in
     let size : min depth (s.bands - p.first) ≡ depth = omega (arith, spot.2) in
     let x : p.place.x + 1 ≡ s.columns = omega (arith, spot.0.column) in
-    let behind : p.place.z - p.first + 1 ≡ depth = omega (arith, spot.1, spot.2, spot.0.band, lt-div-mul-add {a = p.place.z} h) in
+    let later : p.place.z - p.first + 1 ≡ depth = omega (arith, spot.1, spot.2, spot.0.band, lt-div-mul-add {a = p.place.z} h) in
     let place : (p.place.y * s.bands + p.end) * s.columns ≡ (p.place.y * s.bands + p.first) * s.columns + depth * (p.place.x + 1) =
     rw (← end, ← x) (omega arith) in (
       (record { band = more; row = spot.0.row; column = omega (arith, spot.0.column) }, next, omega arith),
       index_in_group s depth p.end (record { z = p.end; y = p.place.y; x = 0 }) next
-          ∙ sym (ap (λ n. n + 1) (index_in_group s depth p.first p.place spot.1) ∙ rw size (omega (arith, place, behind))),
+          ∙ sym (ap (λ n. n + 1) (index_in_group s depth p.first p.place spot.1) ∙ rw size (omega (arith, place, later))),
     )
 
 -- the first band and column of the next row
@@ -155,13 +155,13 @@ next_line s depth p h deep spot last column bands more =
     let low : p.place.z / depth * depth ≤ p.place.z = div-mul-le_self p.place.z depth in
     let size : min depth (s.bands - p.first) ≡ s.bands - p.first = omega (arith, spot.2) in
     let x : p.place.x + 1 ≡ s.columns = omega (arith, spot.0.column) in
-    let behind : p.place.z - p.first + 1 ≡ s.bands - p.first = omega (arith, spot.1, spot.2, spot.0.band) in
+    let later : p.place.z - p.first + 1 ≡ s.bands - p.first = omega (arith, spot.1, spot.2, spot.0.band) in
     let all : p.first + (s.bands - p.first) ≡ s.bands = omega (arith, spot.1, spot.0.band) in
     let line : (p.place.y + 1) * s.bands * s.columns ≡ (p.place.y * s.bands + (p.first + (s.bands - p.first))) * s.columns = rw all (omega arith) in
     let place : (p.place.y + 1) * s.bands * s.columns ≡ (p.place.y * s.bands + p.first) * s.columns + (s.bands - p.first) * (p.place.x + 1) =
     line ∙ rw (← x) (omega arith) in
     let index : place_index s (Bi depth) p.place + 1 ≡ (p.place.y + 1) * s.bands * s.columns =
-    ap (λ n. n + 1) (index_in_group s depth p.first p.place spot.1) ∙ rw size (omega (arith, place, behind)) in
+    ap (λ n. n + 1) (index_in_group s depth p.first p.place spot.1) ∙ rw size (omega (arith, place, later)) in
     let row : p.place.y + 1 < s.rows = lt_of_mul-lt-mul_left (s.bands * s.columns) (omega (arith, index)) in
     let first : 0 ≡ 0 / depth * depth = omega arith in (
       (record { band = omega arith; row = row; column = omega (arith, spot.0.column) }, first, omega arith),
@@ -188,9 +188,9 @@ first_left s o p left lawful place e more =
     rw (here, next, drop-cons (places s o) (place_index s o p) p within, place_at_index s o p p lawful place) refl
 
 -- after so many of what is left, so many fewer are left
-pub left_behind : (s : Sizes) (o : Order) (left n : ℕ) → left ≤ sample_count s → n ≤ left → places_left s o (left - n) ≡ drop n (places_left s o left)
+pub left_after : (s : Sizes) (o : Order) (left n : ℕ) → left ≤ sample_count s → n ≤ left → places_left s o (left - n) ≡ drop n (places_left s o left)
 unfolding places_left
-left_behind s o left n few h =
+left_after s o left n few h =
     let e : sample_count s - (left - n) ≡ sample_count s - left + n = omega arith in
     rw e (sym (drop-drop n (sample_count s - left) (places s o)))
 
@@ -204,11 +204,11 @@ walk_on s o p q after left n walk more on next = record {
 }
 
 -- what remains to be gone by after a part of it
-pub rest_behind : (s : Sizes) (o : Order) (left rest n : ℕ) → left ≤ sample_count s → rest ≤ left → n ≤ rest
+pub rest_after : (s : Sizes) (o : Order) (left rest n : ℕ) → left ≤ sample_count s → rest ≤ left → n ≤ rest
     → drop (rest - n) (places_left s o (left - n)) ≡ drop rest (places_left s o left)
-rest_behind s o left rest n few all some =
+rest_after s o left rest n few all some =
     let e : n + (rest - n) ≡ rest = omega arith in
-    rw (left_behind s o left n few (omega arith)) (drop-drop (rest - n) n (places_left s o left) ∙ rw e refl)
+    rw (left_after s o left n few (omega arith)) (drop-drop (rest - n) n (places_left s o left) ∙ rw e refl)
 
 drop_at_most : (n : ℕ) (ps : List Place) → drop (min n (length ps)) ps ≡ drop n ps
 drop_at_most n [] = drop-nil (min n 0) ∙ sym (drop-nil n)
@@ -246,7 +246,7 @@ column_left s depth p left i walk more inside =
     let few : i < left = omega (arith, index, on.1, (walk.spot more).1) in
     let next = first_left s (Bi depth) (bands_on p i).place (left - i) walk.lawful on.0.0 (omega (arith, on.1, (walk.spot more).1, few)) (omega (arith, few)) in
     sym (get-drop (places_left s (Bi depth) left) i)
-    ∙ ap (λ (ps : List Place). slice_get ps 0) (sym (left_behind s (Bi depth) left i walk.few (omega (arith, few))) ∙ next)
+    ∙ ap (λ (ps : List Place). slice_get ps 0) (sym (left_after s (Bi depth) left i walk.few (omega (arith, few))) ∙ next)
 
 pub column_of : (s : Sizes) (o : Order) (depth : ℕ) (p : Spot) (left : ℕ) (ps : List Place) (i : ℕ) (q : Place) → o ≡ Bi depth → IsWalk s o p left → 0 < left
     → places_left s o left ≡ ps → i < p.end - p.place.z → slice_get ps 0 ≡ Some q

@@ -5,7 +5,7 @@ use Rattle.cube_core.specs.declared.order.Place.{Place}
 use Rattle.cube_core.specs.Shape.{Sizes}
 use Rattle.cube_core.specs.Order.{IsPlaceOf, place_index}
 
--- a band has come to a place that the walk has come to: its places after it are those of a lesser index
+-- band z has come to raster index t where the walk has come to index i: its places of a lesser raster index are those of a lesser index
 abbrev pub HasCome : Sizes → Order → ℕ → ℕ → ℕ → Type 0
 HasCome s o z i t = (p : Place) → IsPlaceOf s p → p.z ≡ z → (place_index s o p < i) ↔ (p.y * s.columns + p.x < t)
 

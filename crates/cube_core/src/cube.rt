@@ -175,7 +175,7 @@ impl Cube {
         self.offsets[at] = self.kind.offset_of(sample);
     }
 
-    /// Lemma: sizes and kind are in range, and each sample is one of the kind. It does nothing at run time.
+    /// Lemma: sizes and kind are in range, and there is one sample of the kind at each place. It does nothing at run time.
     pub fn prove_is_cube(&self)
         ensures { IsCube self.now }
     {
@@ -185,7 +185,7 @@ impl Cube {
         let _bits = self.kind.bits();
     }
 
-    /// One row of a band, each sample as its offset from the least sample of the kind.
+    /// Returns row `y` of band `z`, which are inside the shape: each sample as its offset from the least sample of the kind.
     pub fn row(&self, z: u32, y: u32) -> &[u16]
         requires { IsPlace self.now.shape z y 0 }
         ensures len { length result.now ≡ self.now.shape.columns }

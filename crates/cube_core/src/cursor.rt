@@ -11,7 +11,7 @@ use crate::order::{Order, Place};
 use crate::shape::Shape;
 use std::marker::Model;
 
-/// A place, and the bands `first` to `end - 1` of the group that it is in.
+/// A place, and under interleaving the bands `first` to `end - 1` of its group; in band-sequential order both are 0.
 #[derive(Clone, Copy)]
 pub(crate) struct Spot {
     pub(crate) place: Place,
@@ -41,7 +41,7 @@ impl Model for Places {
 }
 
 impl Places {
-    /// Returns all places of a cube, in encoding order.
+    /// Returns all places of a cube, in encoding order. A depth of interleaving is 1 to the number of bands.
     pub fn new(shape: Shape, order: Order) -> Places
         requires { IsOrder shape order }
         ensures { result ≡ places shape order }
@@ -72,8 +72,8 @@ impl Places {
         self.left
     }
 
-    /// Returns how many of the next places share a row and column, band after band: at least one, and in
-    /// interleaved order those up to the last band of the group.
+    /// Returns a number of next places that share a row and column, band after band: 1 in band-sequential order, in interleaved
+    /// order those up to the last band of the group, and 0 after the last place.
     pub fn column(&self) -> u64
         ensures along { (i : ℕ) (p : APlace) → i < result → slice_get self.now 0 ≡ Some p → slice_get self.now i ≡ Some (record p { z = p.z + i }) }
         ensures some { (p : APlace) → slice_get self.now 0 ≡ Some p → 1 ≤ result }

@@ -30,13 +30,13 @@ pub enum Field {
     Register,
     /// Ω, the weight component resolution.
     Omega,
-    /// The weight update scaling exponent change interval.
+    /// The logarithm to base 2 of t_inc, the weight update scaling exponent change interval.
     Interval,
     /// The least weight update scaling exponent.
     VMin,
     /// The greatest weight update scaling exponent.
     VMax,
-    /// How the weights start.
+    /// How the weights start: a flag, which has no range.
     WeightStart,
     /// The resolution of a weight table.
     Resolution,
@@ -44,15 +44,15 @@ pub enum Field {
     WeightEntry,
     /// The unary length limit.
     Umax,
-    /// The rescaling counter size.
+    /// γ*, the rescaling counter size.
     GammaStar,
-    /// The counter's first exponent.
+    /// γ₀, the initial count exponent.
     GammaZero,
-    /// Whether there is an accumulator table.
+    /// Whether there is an accumulator table: a flag, which has no range.
     AccumulatorTable,
     /// J, the samples in a block.
     BlockSize,
-    /// Whether the set of code options is restricted.
+    /// Whether the set of code options is restricted: a flag, which has no range.
     Restricted,
     /// r, the reference sample interval.
     Reference,
@@ -62,7 +62,7 @@ pub enum Field {
     Slots,
 }
 
-/// A rule between two parameters.
+/// A rule between parameters.
 #[derive(Clone, Copy, Debug, PartialEq, Eq)]
 pub enum Rule {
     /// The depth of interleaving is at most the number of bands.
@@ -79,13 +79,13 @@ pub enum Rule {
     DefaultWithTable,
     /// The default weight start has no resolution.
     DefaultWithResolution,
-    /// The weight resolution is at most Ω + 3.
+    /// Q, the resolution of a weight table, is at most Ω + 3.
     ResolutionOverOmega,
     /// A weight table has one entry for each weight.
     WeightTableLength,
-    /// The first counter exponent is below the rescaling counter size.
+    /// γ₀, the initial count exponent, is below γ*, the rescaling counter size.
     CounterOrder,
-    /// The accumulator's constant is at most D - 2.
+    /// K, the accumulator initialization constant, is at most D - 2.
     StartConstant,
     /// The constant's field is 15 where there is an accumulator table.
     ConstantWithTable,
@@ -99,16 +99,16 @@ pub enum Rule {
 
 /// Why a call is refused. Its `Display` prints the number, the name and the values, as the program does.
 ///
-/// A bit, place, block or index counts from 0.
+/// A bit, place, block, index, band or predictor counts from 0.
 #[derive(Clone, Copy, Debug, PartialEq, Eq, Error)]
 pub enum Fault {
-    /// The bytes end inside a part of the header or inside a table.
+    /// The bytes don't hold a whole part of the header, or a whole table.
     ShortHeader,
-    /// The first reserved bit, or fill bit of a table, that is one; `bit` counts from the file's start.
+    /// The first reserved bit, or fill bit of a table, that is one; `bit` counts from the header's first bit.
     Reserved { bit: u64 },
     /// A parameter out of its own range; `value` is the parameter itself, after any offset of its field.
     FieldRange { field: Field, value: i64 },
-    /// Two parameters break a rule.
+    /// Parameters break a rule.
     Disagree { rule: Rule },
     /// A custom weight start whose table isn't in the file.
     TableElsewhere,
@@ -126,11 +126,11 @@ pub enum Fault {
     TooLong { bits: u64 },
     /// An allocation failed.
     WantOfMemory,
-    /// A raw sample out of range; `index` counts in the layout's order.
+    /// A raw sample that isn't of the kind, or a sample that doesn't fit in its raw bytes; `index` counts in the layout's order.
     SampleRange { index: u64 },
     /// There are `had` raw bytes in place of `wanted`.
     RawLength { wanted: u64, had: u64 },
-    /// The first band that is assigned to no predictor.
+    /// The first band whose predictor doesn't exist; if there is none, the first that only the deal or only the image has.
     BadDeal { band: u32 },
     /// A thread was not started.
     SpawnRefused,

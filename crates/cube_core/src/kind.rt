@@ -97,7 +97,7 @@ impl Kind {
         }
     }
 
-    /// The kind that holds all numbers of one or two bytes.
+    /// Returns the kind of samples of `bytes` whole bytes, 1 or 2, signed where this kind is.
     pub(crate) fn in_bytes(self, bytes: u32) -> Kind
         requires { (bytes ≡ 1) ⊎ (bytes ≡ 2) }
         ensures { result ≡ record { signed = self.signed; bits = 8 * bytes } }
@@ -115,7 +115,7 @@ impl Kind {
         self.smin() <= number && number <= self.smax()
     }
 
-    /// Returns the sample with this offset from the least one.
+    /// Returns the sample with this offset, below 2^D, from the least one.
     pub fn sample_of(self, offset: u16) -> i32
         requires { offset < 2 ^ self.bits }
         ensures value { result ≡ sample_of self offset }

@@ -17,7 +17,7 @@ use byteorder::{BigEndian, ByteOrder, LittleEndian};
 /// the cache.
 pub(crate) const BLOCK: u32 = 32;
 
-/// Samples that follow one another in a row of the cube.
+/// Samples that follow one another in the cube: some of a row, or, where the layout is band-sequential, all of them.
 #[derive(Clone, Copy)]
 pub(crate) struct Piece {
     /// The index of the first one in the cube.

@@ -13,7 +13,7 @@ use crate::piece::{BLOCK, Piece, give_piece};
 use crate::scale::Scale;
 use crate::shape::Shape;
 
-/// Writes the bytes of all samples, and returns whether each sample fits in them.
+/// Writes the bytes of all samples and returns true, or returns false if one doesn't fit in them; some are then not written.
 pub(crate) fn pour(
     shape: Shape,
     kind: Kind,
@@ -34,7 +34,7 @@ pub(crate) fn pour(
     }
 }
 
-/// Writes the bytes of samples that follow one another as in the cube.
+/// Does the same where samples follow one another as in the cube.
 fn pour_bands(shape: Shape, kind: Kind, layout: Layout, offsets: &[u16], bytes: &mut [u8]) -> bool
     requires layout { IsLayout layout }
     requires order { layout.order ≡ Bsq }
@@ -58,7 +58,7 @@ fn pour_bands(shape: Shape, kind: Kind, layout: Layout, offsets: &[u16], bytes: 
     )
 }
 
-/// Writes the bytes of samples row after row, a block of columns of all bands at a time.
+/// Does the same row after row, a block of columns of all bands at a time.
 fn pour_lines(
     shape: Shape,
     kind: Kind,

@@ -37,7 +37,7 @@ pub(crate) fn fill(
     }
 }
 
-/// Writes the offset of each sample, and returns whether all are of the kind.
+/// Writes the offset of each sample and returns true, or returns false if one isn't of the kind; some are then not written.
 fn fill_in_order(
     shape: Shape,
     kind: Kind,
@@ -58,8 +58,7 @@ fn fill_in_order(
     }
 }
 
-/// Writes the offsets of samples that follow one another as in the cube, and returns whether all are of the
-/// kind.
+/// Does the same where samples follow one another as in the cube.
 fn fill_bands(shape: Shape, kind: Kind, layout: Layout, bytes: &[u8], offsets: &mut [u16]) -> bool
     requires layout { IsLayout layout }
     requires order { layout.order ≡ Bsq }
@@ -83,8 +82,7 @@ fn fill_bands(shape: Shape, kind: Kind, layout: Layout, bytes: &[u8], offsets: &
     )
 }
 
-/// Writes the offsets of samples row after row, a block of columns of all bands at a time, and returns whether
-/// all are of the kind.
+/// Does the same row after row, a block of columns of all bands at a time.
 fn fill_lines(
     shape: Shape,
     kind: Kind,

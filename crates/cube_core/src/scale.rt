@@ -47,7 +47,7 @@ impl Scale {
         }
     }
 
-    /// Returns the offset of a number, or one above the greatest where the number is no sample.
+    /// Returns the offset of a number, or some number above the greatest offset where it is no sample.
     pub(crate) fn offset<const BYTES: u32>(&self, number: u16) -> u16
         requires bytes { self.now.bytes ≡ BYTES }
         requires width { (BYTES ≡ 1) ⊎ (BYTES ≡ 2) }

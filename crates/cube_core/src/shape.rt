@@ -107,7 +107,7 @@ pub(crate) fn index_at(shape: Shape, z: u32, y: u32, x: u32) -> usize
     row * shape.columns() as usize + x as usize
 }
 
-/// Returns the index of item `c` of part `b` of part `a`, where a part has `parts` parts of `items` items each.
+/// Returns the index of item `c` of part `b` of group `a`, where each group has `parts` parts, and each part `items` items.
 pub(crate) fn index_among(parts: u32, items: u32, a: u32, b: u32, c: u32) -> usize
     requires outer { a < 65536 }
     requires inner { (b < parts) × (parts ≤ 65536) }

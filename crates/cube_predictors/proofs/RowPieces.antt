@@ -56,11 +56,11 @@ pub past_two : (p : Params) (c : Image) (t n i : ℕ) (bands before rest : List 
     × ArePast p c t n (take (i + 1 + 1) (set before i d ++ set rest 0 f)) × AreAt p c t (drop (i + 1 + 1) (set before i d ++ set rest 0 f))
 past_two p c t n i bands before rest b d e f lt front back done left piece other =
     let there : get_or before i b ≡ get_or bands i b = rw front (get_or-take (i + 1) bands i b (omega arith)) in
-    let behind : get_or rest 0 e ≡ get_or (set bands i d) (i + 1) e =
+    let later : get_or rest 0 e ≡ get_or (set bands i d) (i + 1) e =
     rw (get_or-set_other bands i (i + 1) d e (λ h. absurd (omega (arith, h))), back, get_or-drop (i + 1) bands 0 e)
     (ap (λ k. get_or bands k e) (omega arith)) in
     let first = rw there at piece in
-    let second = rw behind at other in
+    let second = rw later at other in
     let one = past_step p c t n i bands b d (omega arith) done left first in
     let two = past_step p c t n (i + 1) (set bands i d) e f (rw length-set lt) one.0 one.1 second in
     let same : bands_of (set (set bands i d) (i + 1) f) ≡ bands_of bands = band_set c n _ _ _ f second ∙ band_set c n _ _ _ d first in

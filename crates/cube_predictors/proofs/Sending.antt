@@ -92,9 +92,9 @@ module _ {S : Type 0} {may : S → List ℕ → Type 0} {takes : S → S → Boo
       let there = pieces.whole ∙ ap (λ v. v ++ pieces.tail) pieces.more in
       record {
         fits = rw same (laws.more _ _ done next h (laws.less _ (done ++ next) pieces.tail (subst (may old) there m)));
-        so_far = λ new result k. rw pieces.more (laws.behind _ _ _ result _ _ h (rw same at k));
-        cut = λ new result e k. rw there (laws.cut _ _ (done ++ next) pieces.tail (laws.behind _ _ _ false _ _ h (rw (same, e) at k)));
-        more = λ new result e k. rw pieces.more (laws.behind _ _ _ true _ _ h (rw (same, e) at k));
+        so_far = λ new result k. rw pieces.more (laws.append _ _ _ result _ _ h (rw same at k));
+        cut = λ new result e k. rw there (laws.cut _ _ (done ++ next) pieces.tail (laws.append _ _ _ false _ _ h (rw (same, e) at k)));
+        more = λ new result e k. rw pieces.more (laws.append _ _ _ true _ _ h (rw (same, e) at k));
       }
 
 -- ---- some of the bands

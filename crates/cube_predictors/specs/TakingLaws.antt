@@ -21,8 +21,8 @@ module _ {G : Type 0} where
   sends_none : (s : RunSending G) → MaySend s [] → Sends s s true []
   sends_none s h = record { lane = refl; predictor = refl; gate = refl; rest = []; taken = refl; whole = λ e. (refl, h.ready); stopped = λ e. absurd (cc) }
 
-  sends_behind : (old mid new : RunSending G) (all : Bool) (xs ys : List ℕ) → Sends old mid true xs → Sends mid new all ys → Sends old new all (xs ++ ys)
-  sends_behind old mid new all xs ys a b = record {
+  sends_append : (old mid new : RunSending G) (all : Bool) (xs ys : List ℕ) → Sends old mid true xs → Sends mid new all ys → Sends old new all (xs ++ ys)
+  sends_append old mid new all xs ys a b = record {
     lane = b.lane ∙ a.lane;
     predictor = b.predictor ∙ a.predictor;
     gate = b.gate ∙ a.gate;
@@ -45,4 +45,4 @@ module _ {G : Type 0} where
   }
 
   pub sendings_are : AreTakings {S = RunSending G} (λ s list. MaySend s list) (λ old new all list. Sends old new all list)
-  sendings_are = record { less = sends_less; more = sends_more; none = sends_none; behind = sends_behind; cut = sends_cut }
+  sendings_are = record { less = sends_less; more = sends_more; none = sends_none; append = sends_append; cut = sends_cut }

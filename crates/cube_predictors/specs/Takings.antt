@@ -7,7 +7,7 @@ pub record AreTakings {S : Type 0} (may : S → List ℕ → Type 0) (takes : S 
   pub less : (s : S) (xs ys : List ℕ) → may s (xs ++ ys) → may s xs
   pub more : (old new : S) (xs ys : List ℕ) → takes old new true xs → may old (xs ++ ys) → may new ys
   pub none : (s : S) → may s [] → takes s s true []
-  pub behind : (old mid new : S) (all : Bool) (xs ys : List ℕ) → takes old mid true xs → takes mid new all ys → takes old new all (xs ++ ys)
+  pub append : (old mid new : S) (all : Bool) (xs ys : List ℕ) → takes old mid true xs → takes mid new all ys → takes old new all (xs ++ ys)
   pub cut : (old new : S) (xs ys : List ℕ) → takes old new false xs → takes old new false (xs ++ ys)
 
 -- a sender of runs takes more, and can count what it takes

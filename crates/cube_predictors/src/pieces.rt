@@ -100,7 +100,8 @@ fn send_column<R, T: Taker<R>>(
 /// Sends the residuals that some bands hold of their pieces, column after column. Returns false if the taker
 /// has stopped.
 ///
-/// Those of a single band are sent as one slice, others as many columns at once as there is room for.
+/// Those of a single band are sent as one slice, others as many columns at once as there is room for; of more bands than there is
+/// room for, one column in parts.
 pub(crate) fn send_pieces<R, T: Taker<R>>(
     rt: &R,
     count: usize,

@@ -15,7 +15,7 @@ use std::marker::Model;
 /// The greatest band number that is reported.
 const GREATEST_REPORTED: usize = 4_294_967_295;
 
-/// The predictor of each band of an image, and how many residuals a predictor may be ahead of the coding end.
+/// The predictor of each band of an image, and how many residuals a predictor's lane has room for.
 #[derive(Drop)]
 pub struct Plan {
     params: Params,

@@ -194,6 +194,9 @@ fn send_lines<R, T: Taker<R>>(
 
 /// Sends the residuals of a predictor's bands, in encoding order. By an empty deal all bands belong to the
 /// first predictor. Returns false if the taker has stopped.
+///
+/// The parameters are lawful, the cube has their shape and kind, and the bands are the predictor's, in order, each at its first
+/// place. Afterwards the state of the bands is unspecified.
 pub fn send_own<R, T: Taker<R>>(
     rt: &R,
     cube: &Cube,

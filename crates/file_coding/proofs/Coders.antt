@@ -30,7 +30,7 @@ use Rattle.file_coding.specs.declared.encoder.Encoder.{Encoder}
 use Rattle.file_coding.specs.declared.encoder.Encoder.TheVariants.{Samples, Blocks}
 use Rattle.file_coding.specs.File.{body_of, body_by}
 use Rattle.sample_adaptive.specs.Given.{places_of}
-use Rattle.file_coding.specs.Coding.{places_behind, of_band, SamplesTaken, HasTaken, MayPut, PutsNumber, PutsRun, PutsColumn, PutsBlocks, EndsBody}
+use Rattle.file_coding.specs.Coding.{places_after, of_band, SamplesTaken, HasTaken, MayPut, PutsNumber, PutsRun, PutsColumn, PutsBlocks, EndsBody}
 
 -- ---- places
 
@@ -43,7 +43,7 @@ places_whole p numbers lawful e = take_all (length numbers) (places p.shape p.or
 
 -- as many places come after those of the numbers
 pub run_count : (p : Params) (numbers : List ℕ) (count : ℕ) → length numbers + count ≤ length (places p.shape p.order)
-    → count ≡ length (places_behind p numbers count)
+    → count ≡ length (places_after p numbers count)
 run_count p numbers count fits =
     omega (arith, fits, length-take count (drop (length numbers) (places p.shape p.order)), length-drop (length numbers) (places p.shape p.order))
 
@@ -56,25 +56,25 @@ samples_none p v coder bands taken = record { coder = coder; bands = bands; dept
 -- the numbers of a run more
 pub samples_more_run : (p : Params) (old new : Counts) (numbers run : List ℕ) (bits : List Bool) → length numbers + length run ≤ length (places p.shape p.order)
     → SamplesTaken p old numbers bits → (length new.bands ≡ length old.bands) × (new.bits ≡ old.bits)
-    → HaveTaken (settings p) new (λ b. band_numbers b (places_of p numbers ++ places_behind p numbers (length run)) (numbers ++ run))
-    → SamplesTaken p new (numbers ++ run) (bits ++ words_after (settings p) (places_of p numbers) numbers (places_behind p numbers (length run)) run)
+    → HaveTaken (settings p) new (λ b. band_numbers b (places_of p numbers ++ places_after p numbers (length run)) (numbers ++ run))
+    → SamplesTaken p new (numbers ++ run) (bits ++ words_after (settings p) (places_of p numbers) numbers (places_after p numbers (length run)) run)
 samples_more_run p old new numbers run bits fits h kept taken =
     let long = places_long p numbers (omega (arith, fits)) in
-    let whole : places_of p (numbers ++ run) ≡ places_of p numbers ++ places_behind p numbers (length run) =
+    let whole : places_of p (numbers ++ run) ≡ places_of p numbers ++ places_after p numbers (length run) =
     rw (length-append numbers run, take-add (length numbers) (length run) (places p.shape p.order)) refl in
     record {
       coder = h.coder;
       bands = kept.0 ∙ h.bands;
       depth = kept.1 ∙ h.depth;
       taken = subst (λ (qs : List Place). HaveTaken (settings p) new (λ b. band_numbers b qs (numbers ++ run))) (sym whole) taken;
-      text = rw (whole, body_run (settings p) (places_of p numbers) (places_behind p numbers (length run)) numbers run long, ← h.text) refl;
+      text = rw (whole, body_run (settings p) (places_of p numbers) (places_after p numbers (length run)) numbers run long, ← h.text) refl;
     }
 
 pub samples_run : (z t : ℕ) (run : List ℕ) (old new : Counts) (written now : List Bool) → PutsMany z t run old written new now
     → (length new.bands ≡ length old.bands) × (new.bits ≡ old.bits) → PutsRun z t run (Samples old) written (Samples new) now
 samples_run z t run old new written now puts kept p numbers bits h next =
     let long = places_long p numbers (omega (arith, next.fits)) in
-    let qs = places_behind p numbers (length run) in
+    let qs = places_after p numbers (length run) in
     let did = puts (settings p) (places_of p numbers) qs numbers long (run_count p numbers (length run) next.fits) next.band h.taken next.time in
     (words_after (settings p) (places_of p numbers) numbers qs run, did.0, samples_more_run p old new numbers run bits next.fits h kept did.1)
 
@@ -88,7 +88,7 @@ unfolding words_after
 samples_more p old new numbers bits q number e h kept taken =
     let all = places p.shape p.order in
     let lt = (take_next all (length numbers) q e).0 in
-    let one : places_behind p numbers 1 ≡ q ∷ [] = rw (drop_more all (length numbers) q lt, get_or_from_slice_get all (length numbers) q q e) refl in
+    let one : places_after p numbers 1 ≡ q ∷ [] = rw (drop_more all (length numbers) q lt, get_or_from_slice_get all (length numbers) q q e) refl in
     rw append-nil at (rw one at (samples_more_run p old new numbers (number ∷ []) bits (omega (arith, lt)) h kept (rw one taken)))
 
 pub samples_put : (z t number : ℕ) (old new : Counts) (written now : List Bool) → PutsOne z t number old written new now

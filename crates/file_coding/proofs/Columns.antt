@@ -8,7 +8,7 @@ use Rattle.file_coding.specs.declared.encoder.Encoder.TheVariants.{Samples, Bloc
 use Rattle.file_coding.specs.Coding.{HasTaken, IsBySamples, MayPutColumn, PutsColumn}
 use Rattle.file_coding.specs.Ends.{Ending, HasCoded, MayCodeColumn, CodesAll, AreOfColumn}
 use Rattle.file_coding.proofs.Endings.{place_left, coded_more}
-use Rattle.file_coding.proofs.Runs.{codes_none, codes_behind}
+use Rattle.file_coding.proofs.Runs.{codes_none, codes_after}
 
 by_samples : (p : Params) (coder : Encoder) (numbers column : List ℕ) (bits : List Bool) (z : ℕ) → IsBySamples coder → HasTaken p coder numbers bits
     → z + length column ≤ p.shape.bands → AllByRecursion (λ n. n < 2 ^ p.kind.bits) column → length column ≤ 2 ^ 16 → MayPutColumn coder z column
@@ -41,7 +41,7 @@ codes_column columns word (q ∷ rest) place t (n ∷ ns) coder now bits later t
     let first : Some q ≡ Some place = rw here at (along 0 (omega arith)) in
     let same : q ≡ place = cc in
     let above : (i : ℕ) → place.z + suc i ≡ suc place.z + i = λ i. omega arith in
-    codes_behind _ (record { columns = columns; word = word; left = rest; coder = h.0; bits = h.1 }) _ (n ∷ []) ns
+    codes_after _ (record { columns = columns; word = word; left = rest; coder = h.0; bits = h.1 }) _ (n ∷ []) ns
     (coded_more _ _ place t n (ap (λ (r : Place). r ∷ rest) same) time refl refl h.2)
     (codes_column columns word rest (record { z = suc place.z; y = place.y; x = place.x }) t ns h.0 now h.1 later time
     (λ i lt. rw (above i) at (along (suc i) (omega (arith, lt)))) h.3)

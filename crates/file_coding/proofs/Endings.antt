@@ -59,11 +59,11 @@ pub place_comes : (e : Ending) (number : ℕ) → MayCode e number → None ≡ 
 place_comes e number may none = comes_next may.params e may.numbers may.coded may.more none
 
 -- what the entropy coder has taken, the coding end has
-pub coded_behind : (old new : Ending) (list : List ℕ) (p : Params) (numbers : List ℕ) (h : HasCoded p old numbers)
+pub coded_after : (old new : Ending) (list : List ℕ) (p : Params) (numbers : List ℕ) (h : HasCoded p old numbers)
     → length numbers + length list ≤ length (places p.shape p.order) → new.left ≡ drop (length list) old.left → new.columns ≡ old.columns → new.word ≡ old.word
     → (more : List Bool) → new.bits ≡ old.bits ++ more → HasTaken p new.coder (numbers ++ list) (h.written ++ more)
     → HasCoded p new (numbers ++ list)
-coded_behind old new list p numbers h fits moved columns word more grown taken = record {
+coded_after old new list p numbers h fits moved columns word more grown taken = record {
   columns = columns ∙ h.columns;
   word = word ∙ h.word;
   order = h.order;
@@ -81,7 +81,7 @@ coded_more old new place t number moved time columns word puts p numbers h =
     let next : slice_get old.left 0 ≡ Some place = rw moved refl in
     let item = item_next p old numbers place h next in
     let did = puts p numbers h.written h.taken (place, item, refl, time_next p old numbers place t h next time) in
-    coded_behind old new (number ∷ []) p numbers h (omega (arith, slice_get_within (places p.shape p.order) (length numbers) place item))
+    coded_after old new (number ∷ []) p numbers h (omega (arith, slice_get_within (places p.shape p.order) (length numbers) place item))
     (sym (ap (λ (qs : List Place). drop 1 qs) moved)) columns word did.0 did.1 did.2
 
 -- ---- the file

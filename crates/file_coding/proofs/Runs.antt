@@ -23,12 +23,12 @@ use Rattle.file_coding.specs.declared.encoder.Encoder.TheVariants.{Samples, Bloc
 use Rattle.file_coding.specs.Coding.{HasTaken, IsRun, IsBySamples, IsByBlocks, MayPutRun, MayPutBlocks, PutsRun, PutsBlocks}
 use Rattle.file_coding.specs.Ends.{Ending, HasCoded, MayCodeAll, MayCodeRun, CodesAll}
 use Rattle.block_adaptive.proofs.Given.{cut_bits}
-use Rattle.file_coding.proofs.Endings.{place_left, time_next, length-left, comes_next, coded_behind}
+use Rattle.file_coding.proofs.Endings.{place_left, time_next, length-left, comes_next, coded_after}
 
 -- ---- places that go along rows
 
-pub rows_behind : (columns n : ℕ) (ps now : List Place) → now ≡ drop n ps → AreByRows columns ps → AreByRows columns now
-rows_behind columns n ps now e h =
+pub rows_after : (columns n : ℕ) (ps now : List Place) → now ≡ drop n ps → AreByRows columns ps → AreByRows columns now
+rows_after columns n ps now e h =
     rw e (λ i q f lt. get_drop ps n (suc i) ∙ (let next : n + suc i ≡ suc (n + i) = omega arith in rw next (h (n + i) q (sym (get_drop ps n i) ∙ f) lt)))
 
 -- the places of a row are of one band
@@ -41,7 +41,7 @@ row_band columns (suc (suc n)) (q ∷ ps) place h first fits =
     let same : q ≡ place = cc in
     let next = h 0 place first (omega (arith, fits)) in
     let more : Place = record { z = place.z; y = place.y; x = place.x + 1 } in
-    (ap (λ r. r.z) same, row_band columns (suc n) ps more (rows_behind columns 1 (q ∷ ps) ps refl h) next (omega (arith, fits)))
+    (ap (λ r. r.z) same, row_band columns (suc n) ps more (rows_after columns 1 (q ∷ ps) ps refl h) next (omega (arith, fits)))
 
 -- where places go along rows, they come row by row
 pub rows_follow : (s : Sizes) (o : Order) → IsOrder s o → goes_along_rows o ≡ true → AreByRows s.columns (places s o)
@@ -58,8 +58,8 @@ rows_follow s o lawful along i q e lt =
 pub codes_none : (e : Ending) → CodesAll e e []
 codes_none e p numbers h = rw (append-nil numbers) h
 
-pub codes_behind : (a b d : Ending) (xs ys : List ℕ) → CodesAll a b xs → CodesAll b d ys → CodesAll a d (xs ++ ys)
-codes_behind a b d xs ys f g p numbers h = rw (append_assoc numbers xs ys) at (g p (numbers ++ xs) (f p numbers h))
+pub codes_after : (a b d : Ending) (xs ys : List ℕ) → CodesAll a b xs → CodesAll b d ys → CodesAll a d (xs ++ ys)
+codes_after a b d xs ys f g p numbers h = rw (append_assoc numbers xs ys) at (g p (numbers ++ xs) (f p numbers h))
 
 -- a part of a list, from a place of it to another
 abbrev pub part : List ℕ → ℕ → ℕ → List ℕ
@@ -69,7 +69,7 @@ pub codes_part : (a b d : Ending) (list : List ℕ) (first count : ℕ) → Code
     → CodesAll a d (take (first + count) list)
 codes_part a b d list first count f g =
     let e : first + count - first ≡ count = omega arith in
-    rw take-add (codes_behind a b d (take first list) (take count (drop first list)) f (rw e at g))
+    rw take-add (codes_after a b d (take first list) (take count (drop first list)) f (rw e at g))
 
 pub may_part : (old e : Ending) (list : List ℕ) (first count : ℕ) → MayCodeAll old list → CodesAll old e (take first list) → first + count ≤ length list
     → MayCodeAll e (part list first (first + count))
@@ -90,9 +90,9 @@ place_waits old e list first may codes lt none =
     (rw (length-append, length-take) (omega (arith, may.more, lt))) none
 
 -- the residuals that may be coded are no more than the places after those that were
-pub fits_behind : (old : Ending) (list : List ℕ) → MayCodeAll old list → (p : Params) (numbers : List ℕ) → HasCoded p old numbers
+pub fits_after : (old : Ending) (list : List ℕ) → MayCodeAll old list → (p : Params) (numbers : List ℕ) → HasCoded p old numbers
     → length numbers + length list ≤ length (places p.shape p.order)
-fits_behind old list may p numbers h =
+fits_after old list may p numbers h =
     omega (arith, length-left p old numbers h, length-left may.params old may.numbers may.coded, may.more, h.within, length-places p.shape p.order h.order)
 
 -- ---- by blocks
@@ -110,8 +110,8 @@ pub coded_blocks : (old new : Ending) (list : List ℕ) (n : ℕ) → MayCodeAll
 coded_blocks old new list n may le moved columns word puts p numbers h =
     let long : length (take n list) ≡ n = omega (arith, le, length-take n list) in
     let did = puts p numbers h.written h.taken in
-    let fits = fits_behind old list may p numbers h in
-    coded_behind old new (take n list) p numbers h (omega (arith, fits, long, le)) (rw long moved) columns word did.0 did.1 did.2
+    let fits = fits_after old list may p numbers h in
+    coded_after old new (take n list) p numbers h (omega (arith, fits, long, le)) (rw long moved) columns word did.0 did.1 did.2
 
 -- ---- row by row
 
@@ -148,7 +148,7 @@ pub coded_run : (old new : Ending) (place : Place) (t : ℕ) (run : List ℕ) �
     → t ≡ place.y * old.columns + place.x → new.columns ≡ old.columns → new.word ≡ old.word → PutsRun place.z t run old.coder old.bits new.coder new.bits
     → CodesAll old new run
 coded_run old new place t run may moved time columns word puts p numbers h =
-    let fits = fits_behind old run may.may p numbers h in
+    let fits = fits_after old run may.may p numbers h in
     let is_run : IsRun p numbers place.z t (length run) = record {
       fits = fits;
       band = subst (λ (ps : List Place). AllByRecursion (λ q. q.z ≡ place.z) (take (length run) ps)) h.left
@@ -156,4 +156,4 @@ coded_run old new place t run may moved time columns word puts p numbers h =
       time = time_next p old numbers place t h may.next time;
     } in
     let did = puts p numbers h.written h.taken is_run in
-    coded_behind old new run p numbers h fits moved columns word did.0 did.1 did.2
+    coded_after old new run p numbers h fits moved columns word did.0 did.1 did.2

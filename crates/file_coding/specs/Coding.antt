@@ -68,13 +68,13 @@ MayPutRun (Samples v) z t run = (z < length v.bands) × AllByRecursion (λ n. n 
 MayPutRun (Blocks v) z t run = ⊥
 
 -- so many places after those of the numbers
-abbrev pub places_behind : Params → List ℕ → ℕ → List Place
-places_behind p numbers count = take count (drop (length numbers) (places p.shape p.order))
+abbrev pub places_after : Params → List ℕ → ℕ → List Place
+places_after p numbers count = take count (drop (length numbers) (places p.shape p.order))
 
 -- the next numbers, so many, are those of band z from number t on
 pub record IsRun (p : Params) (numbers : List ℕ) (z t count : ℕ) : Type 0 where
   pub fits : length numbers + count ≤ length (places p.shape p.order)
-  pub band : AllByRecursion (λ q. q.z ≡ z) (places_behind p numbers count)
+  pub band : AllByRecursion (λ q. q.z ≡ z) (places_after p numbers count)
   pub time : t ≡ length (of_band p numbers z)
 
 -- whatever numbers were taken before: bits were appended, and with them the numbers of a run are taken

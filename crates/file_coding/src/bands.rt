@@ -12,7 +12,8 @@ use header_bits::params::Params;
 use predict_core::band::Band;
 use std::alloc::Global;
 
-/// Returns the predictors of all bands of an image, each at its first place.
+/// Returns the predictors of all bands of an image, each at its first place. Returns `WantOfMemory` if their list can't be
+/// allocated.
 pub fn all_bands(alloc: Global, params: &Params) -> Result<Vec<Band>, Fault>
     requires { IsLawful params.now }
     ensures len { IfOk result (λ bands. vec_len bands ≡ params.now.shape.bands) }

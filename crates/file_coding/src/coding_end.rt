@@ -102,9 +102,9 @@ impl CodingEnd {
         Ok(())
     }
 
-    /// Takes the residuals of the next places, each of which is at most 2^D - 1.
+    /// Takes the residuals of the next places, each of which is at most 2^D - 1. At least as many are still to come.
     ///
-    /// Returns `WantOfMemory` if an allocation fails; then the first of them were taken, as many as there was memory for.
+    /// Returns `WantOfMemory` if an allocation fails; then some of the first were taken, or none.
     pub fn put_all(&mut self, residuals: &[u16]) -> Result<(), Fault>
         requires { MayCodeAll self.old residuals.now }
         ensures coded { OnOk result (CodesAll self.old self.new residuals.now) }

@@ -1,4 +1,4 @@
-//! The coding end: one of the two entropy coders, which takes an image's residuals in encoding order.
+//! The entropy coder of an image, either of the two, as it writes: it takes the residuals in encoding order.
 
 ghost use Rattle.std.specs.Prelude.{◌≡◌, ◌*◌, ◌<◌, ◌≤◌, [], length, take, IsOk, IsTrue, IsFalse, IfOk, IfErr, OnOk, OnErr};
 ghost use Rattle.cube_core.specs.declared.fault.Fault.TheVariants.{WantOfMemory};

@@ -32,7 +32,7 @@ use Rattle.block_adaptive.specs.declared.options.CodeSet.{CodeSet}
 use Rattle.block_adaptive.proofs.Exact as blocks
 use Rattle.block_adaptive.proofs.Handed.{size_least}
 use Rattle.block_adaptive.proofs.Segmented.{no_shorter_body}
-use Rattle.file_decoding.specs.Files.{IsBodyBy, IsBody, IsFile, behind_by, behind_body, some_one, fill_test, body_test, head_at, file_test}
+use Rattle.file_decoding.specs.Files.{IsBodyBy, IsBody, IsFile, after_by, after_body, some_one, fill_test, body_test, head_at, file_test}
 use Rattle.file_decoding.specs.Least.{least_by, least_length, least_test}
 use Rattle.file_decoding.specs.Laws.{FileIsFine, OneFile}
 
@@ -51,7 +51,7 @@ numbers_at (Block size restricted reference) count p =
 -- exactly the bodies are read, and none is shorter than the least
 pub record AreBodies (p : Params) (coder : Coder) : Type 0 where
   pub exact : (count : ℕ) → IsExact (numbers_at coder count p) (IsBodyOf p coder)
-  pub behind : (count : ℕ) (bits : List Bool) → behind_by coder count p bits ≡ (numbers_at coder count p bits >>= λ read. Ok read.1)
+  pub left_over : (count : ℕ) (bits : List Bool) → after_by coder count p bits ≡ (numbers_at coder count p bits >>= λ read. Ok read.1)
   pub least : (numbers : List ℕ) (body : List Bool) → IsBodyOf p coder numbers body → least_by coder (sample_count p.shape) ≤ length body
 
 bodies : (p : Params) (coder : Coder) → IsLawful p → IsCoder p coder → AreBodies p coder
@@ -61,7 +61,7 @@ bodies p (Sample umax gamma_star gamma_zero start) lawful h =
     let deep : 1 ≤ (settings p).bits = omega (arith, settings_bits p, lawful.kind) in
     record {
       exact = λ count. rw (whole, settings_bits p) at (samples.body_exact count (settings p) along);
-      behind = λ count bits. refl;
+      left_over = λ count bits. refl;
       least = λ numbers body b. omega (arith, samples.no_shorter_body (settings p) along numbers deep (b.0 ∙ sym whole), ap length b.2, b.0);
     }
 bodies p (Block size restricted reference) lawful h =
@@ -69,7 +69,7 @@ bodies p (Block size restricted reference) lawful h =
     let two : 2 ≤ size = omega (arith, size_least size h.0) in
     record {
       exact = λ count. blocks.body_exact count set size reference (sample_count p.shape) h.0 h.2.0;
-      behind = λ count bits. blocks.same_left count set size reference (sample_count p.shape) bits;
+      left_over = λ count bits. blocks.same_left count set size reference (sample_count p.shape) bits;
       least = λ numbers body b. rw b.0 at (no_shorter_body set size reference numbers body (omega (arith, lawful.kind)) two h.2.0 b.2);
     }
 
@@ -78,9 +78,9 @@ module _ (p : Params) (lawful : IsLawful p) where
   are_bodies = bodies p p.coder lawful lawful.coder
 
   -- a body is read again, whatever follows
-  pub behind_again : (count : ℕ) (numbers : List ℕ) (body rest : List Bool) → IsBodyOf p p.coder numbers body → behind_body count p (body ++ rest) ≡ Ok rest
-  unfolding behind_body
-  behind_again count numbers body rest b = rw (are_bodies.behind count (body ++ rest), (are_bodies.exact count).again numbers body rest b) refl
+  pub after_again : (count : ℕ) (numbers : List ℕ) (body rest : List Bool) → IsBodyOf p p.coder numbers body → after_body count p (body ++ rest) ≡ Ok rest
+  unfolding after_body
+  after_again count numbers body rest b = rw (are_bodies.left_over count (body ++ rest), (are_bodies.exact count).again numbers body rest b) refl
 
   -- ---- residuals of a cube of the parameters
 
@@ -144,12 +144,12 @@ module _ (bytes : List ℕ) (p : Params) (c : Image) (lawful : IsLawful p) (f : 
 pub file_is_fine : FileIsFine
 unfolding file_test body_test head_at
 file_is_fine bytes p c lawful f =
-    let behind : List Bool = f.body ++ replicate f.fill false in
-    let count : ℕ = length (f.header ++ behind) in
-    let header = header_exact.again p f.header behind f.spelt in
-    let body = behind_again p lawful count _ f.body (replicate f.fill false) (body_of_file bytes p c lawful f) in
-    let enough : least_test count p behind ≡ fine =
-    rw (le-ltb (length behind) (least_length p) (omega (arith, body_long bytes p c lawful f, length-append {A = Bool}))) refl in
+    let later : List Bool = f.body ++ replicate f.fill false in
+    let count : ℕ = length (f.header ++ later) in
+    let header = header_exact.again p f.header later f.spelt in
+    let body = after_again p lawful count _ f.body (replicate f.fill false) (body_of_file bytes p c lawful f) in
+    let enough : least_test count p later ≡ fine =
+    rw (le-ltb (length later) (least_length p) (omega (arith, body_long bytes p c lawful f, length-append {A = Bool}))) refl in
     rw (file_text bytes p c lawful f, header, enough, body) (zeros_pass p.word f.fill f.few)
 
 pub one_file : OneFile
@@ -159,6 +159,6 @@ one_file bytes p q c d lawful f g =
     let one = one_spelling _ _ header_exact _ _ _ _ _ _ f.spelt g.spelt whole in
     let cube : IsCubeOf p d = rw one.0 g.cube in
     let body = body_of_cube p lawful d g.body cube (rw one.0 g.coded) in
-    let behind = append_cancel_left g.header _ _ (rw one.1 at whole) in
-    let same = one_spelling _ _ ((are_bodies p lawful).exact 0) _ _ _ _ _ _ (body_of_file bytes p c lawful f) body behind in
+    let later = append_cancel_left g.header _ _ (rw one.1 at whole) in
+    let same = one_spelling _ _ ((are_bodies p lawful).exact 0) _ _ _ _ _ _ (body_of_file bytes p c lawful f) body later in
     (one.0, one_cube p c d lawful f.cube cube same.0)

@@ -11,9 +11,9 @@ use Rattle.header_bits.specs.Header.{header_at, SpellsHeader, BeginsWithTable}
 use Rattle.header_bits.proofs.Headers.{header_exact}
 use Rattle.header_bits.proofs.SpeltLawful.{spelt_is_lawful}
 use Rattle.file_decoding.specs.Decoding.{TakesCube, AnswersOr, IsNoFile, IsRefusal, ReadsFile}
-use Rattle.file_decoding.specs.Files.{IsFile, behind_body, fill_test, body_test, head_at, file_test}
+use Rattle.file_decoding.specs.Files.{IsFile, after_body, fill_test, body_test, head_at, file_test}
 use Rattle.file_decoding.specs.Least.{least_test}
-use Rattle.file_decoding.proofs.FileLaws.{body_of_cube, behind_again, passed, file_is_fine, one_file}
+use Rattle.file_decoding.proofs.FileLaws.{body_of_cube, after_again, passed, file_is_fine, one_file}
 
 -- ---- a refusal is the file's first fault
 
@@ -36,13 +36,13 @@ stopped bits e (inl h) = inl (head_refused _ _ (header_refused _ _ h))
 stopped bits e (inr (w, table)) = inr (w, inl table)
 
 module _ (bits : List Bool) (p : Params) (left : List Bool) (e : Fault) (header : header_at bits ≡ Ok (p, left)) where
-  -- fewer bits are left than the shortest body has
+  -- fewer bits are left than every body has
   pub short_refused : Err e ≡ least_test (length bits) p left → IsRefusal bits e
   unfolding file_test head_at
   short_refused short = inl (rw (header, ← short) refl)
 
   -- a body wasn't read
-  pub body_refused : fine ≡ least_test (length bits) p left → (e ≡ WantOfMemory) ⊎ (behind_body (length bits) p left ≡ Err e) → IsRefusal bits e
+  pub body_refused : fine ≡ least_test (length bits) p left → (e ≡ WantOfMemory) ⊎ (after_body (length bits) p left ≡ Err e) → IsRefusal bits e
   unfolding file_test head_at body_test
   body_refused enough (inl w) = inr (w, inr ((p, left), rw (header, ← enough) refl))
   body_refused enough (inr b) = inl (rw (header, ← enough, b) refl)
@@ -51,7 +51,7 @@ module _ (bits : List Bool) (p : Params) (left : List Bool) (e : Fault) (header 
       → Err e ≡ fill_test p.word fill → IsRefusal bits e
   unfolding file_test head_at body_test
   fill_refused enough c fill lawful t f =
-      let body = behind_again p lawful (length bits) _ t.body fill (body_of_cube p lawful c t.body t.cube t.coded) in
+      let body = after_again p lawful (length bits) _ t.body fill (body_of_cube p lawful c t.body t.cube t.coded) in
       inl (rw (header, ← enough, t.text, body, ← f) refl)
 
 -- ---- where nothing is refused, the bytes are a file

@@ -25,7 +25,7 @@ use Rattle.block_adaptive.proofs.Given.{block_is, given_whole as blocks_whole}
 use Rattle.file_decoding.specs.declared.decoder.Decoder.{Decoder}
 use Rattle.file_decoding.specs.declared.decoder.Decoder.TheVariants.{Samples, Blocks}
 use Rattle.file_decoding.specs.Decoding.{HasGiven, MayAskEach, GivesAll, GivesMore, GivesEach}
-use Rattle.file_decoding.specs.Files.{IsBody, behind_body}
+use Rattle.file_decoding.specs.Files.{IsBody, after_body}
 
 -- ---- what may be asked for
 
@@ -53,7 +53,7 @@ may_give (Blocks v) {count = count} m some = omega (arith, some, m.given.count, 
 pub samples_give : {X : Type 0} (numbers_of : X → List ℕ) (r : Result X Fault) (p : Params) (numbers : List ℕ) (bits : List Bool) (unread : Unread)
     (new : Counts) (left : List Bool) → IsSample p.coder → SamplesGive numbers_of r p numbers bits unread new left
     → GivesMore numbers_of r p numbers bits unread (Samples new) left
-unfolding behind_body
+unfolding after_body
 samples_give numbers_of (Ok x) p numbers bits unread new left coder did = did
 samples_give numbers_of (Err fault) p numbers bits unread new left coder did =
     let k = sample_is p.coder coder in
@@ -69,20 +69,20 @@ samples_each r zs ts index old new unread left list gets kept m =
 pub blocks_give : {X : Type 0} (numbers_of : X → List ℕ) (r : Result X Fault) (p : Params) (numbers : List ℕ) (bits : List Bool) (unread : Unread)
     (new : Unpacked) (left : List Bool) → IsBlock p.coder → GivesMoreOf numbers_of r p numbers bits unread new left
     → GivesMore numbers_of r p numbers bits unread (Blocks new) left
-unfolding behind_body block_body_at
+unfolding after_body block_body_at
 blocks_give numbers_of (Ok x) p numbers bits unread new left coder did = did
 blocks_give numbers_of (Err fault) p numbers bits unread new left coder did =
     let k = block_is p.coder coder in
     rw k.3 (rw (rw k.3 at did) refl)
 
 -- more after them
-pub gives_behind : (p : Params) (mid new : Decoder) (numbers : List ℕ) (bits unread now left : List Bool) (count : ℕ) (xs ys : List ℕ)
+pub gives_after : (p : Params) (mid new : Decoder) (numbers : List ℕ) (bits unread now left : List Bool) (count : ℕ) (xs ys : List ℕ)
     (r : Result (Unit {0}) Fault) (g : GivesAll p mid numbers bits unread now xs)
     → GivesMore (λ _. ys) r p (numbers ++ xs) (bits ++ g.1) (record { count = count; left = now }) new left
     → GivesMore (λ _. xs ++ ys) r p numbers bits (record { count = count; left = unread }) new left
-gives_behind p mid new numbers bits unread now left count xs ys (Ok u) g m =
+gives_after p mid new numbers bits unread now left count xs ys (Ok u) g m =
     (all_append _ _ _ g.0 m.0, g.1 ++ m.1, rw (append_assoc g.1 m.1 left, ← m.2) g.2, rw (append_assoc numbers xs ys, append_assoc bits g.1 m.1) at m.3)
-gives_behind p mid new numbers bits unread now left count xs ys (Err fault) g bad = rw (g.2, ← append_assoc bits g.1 now) bad
+gives_after p mid new numbers bits unread now left count xs ys (Err fault) g bad = rw (g.2, ← append_assoc bits g.1 now) bad
 
 -- ---- where all are given, the bits are a body of them
 

@@ -116,8 +116,8 @@ module _ {p : Params} {c : Image} {left : List Place} {bands : List Learner} {d 
     }
 
     -- the residuals of the tile were given: the image with its samples has them
-    module _ {e : Image} {after : List Learner} (new : Decoder) {behind : List Bool} (deltas : List ℕ) (filled : IsFilled p c e tile after deltas)
-        (alike : AreAlike c e) (gives : GivesAll p new (residuals_at p c (gone_by p left)) w.read now behind deltas)
+    module _ {e : Image} {after : List Learner} (new : Decoder) {later : List Bool} (deltas : List ℕ) (filled : IsFilled p c e tile after deltas)
+        (alike : AreAlike c e) (gives : GivesAll p new (residuals_at p c (gone_by p left)) w.read now later deltas)
         (long : length deltas ≡ tile.columns * tile.bands) (many : length after ≡ length bands) where
       value : (k : ℕ) → k < length deltas
           → (q : Place) × (slice_get left k ≡ Some q) × (mapped_residual p e q.z (q.y * e.shape.columns + q.x) ≡ slice_index deltas k)
@@ -130,7 +130,7 @@ module _ {p : Params} {c : Image} {left : List Place} {bands : List Learner} {d 
             shapes ∙ filled.residuals _ _ v.column v.band ∙ ap (slice_index deltas) v.split,
           )
 
-      pub walked_more : IsWalked p e (drop (length deltas) left) after new start behind
+      pub walked_more : IsWalked p e (drop (length deltas) left) after new start later
       walked_more =
           let goes = goes_by p lawful.order w.walk.rest (length deltas) (omega (arith, long, fits.1)) in
           let before = residuals_same lawful w.shape alike left (rw at filled.same) in
@@ -141,6 +141,6 @@ module _ {p : Params} {c : Image} {left : List Place} {bands : List Learner} {d 
             kind = sym alike.kind ∙ w.kind;
             walk = record { rest = goes.others; many = many ∙ w.walk.many; along = rw (goes.count, at) filled.along };
             read = w.read ++ gives.1;
-            text = w.text ∙ ap (λ (x : List Bool). w.read ++ x) gives.2 ∙ sym (append_assoc w.read gives.1 behind);
+            text = w.text ∙ ap (λ (x : List Bool). w.read ++ x) gives.2 ∙ sym (append_assoc w.read gives.1 later);
             given = rw all gives.3;
           }

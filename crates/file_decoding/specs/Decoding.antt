@@ -16,7 +16,7 @@ use Rattle.block_adaptive.specs.Given.{given_count, HasGivenOf}
 use Rattle.block_adaptive.specs.DataSets.{capacity}
 use Rattle.file_decoding.specs.declared.decoder.Decoder.{Decoder}
 use Rattle.file_decoding.specs.declared.decoder.Decoder.TheVariants.{Samples, Blocks}
-use Rattle.file_decoding.specs.Files.{IsBody, IsFile, behind_body, head_at, file_test}
+use Rattle.file_decoding.specs.Files.{IsBody, IsFile, after_body, head_at, file_test}
 
 -- the coder of parameters has given the numbers, and has read the bits
 abbrev pub HasGiven : Params → Decoder → List ℕ → List Bool → Type 0
@@ -42,7 +42,7 @@ GivesAll p new numbers bits unread left list =
 abbrev pub GivesMore : {X : Type 0} → (X → List ℕ) → Result X Fault → Params → List ℕ → List Bool → Unread → Decoder → List Bool → Type 0
 GivesMore numbers_of result p numbers bits unread new left =
     MatchResult result (λ answer. GivesAll p new numbers bits unread.left left (numbers_of answer))
-    (λ fault. behind_body unread.count p (bits ++ unread.left) ≡ Err fault)
+    (λ fault. after_body unread.count p (bits ++ unread.left) ≡ Err fault)
 
 -- whatever numbers were given before: the next one is given, or the refusal is that of the body
 abbrev pub GivesNumber : ℕ → ℕ → ℕ → Result ℕ Fault → Decoder → Unread → Decoder → List Bool → Type 0

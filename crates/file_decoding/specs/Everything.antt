@@ -4,8 +4,8 @@ use Rattle.sample_prediction.specs.Everything.{everything as of_residuals}
 use Rattle.sample_adaptive.specs.Everything.{everything as of_samples}
 use Rattle.block_adaptive.specs.Everything.{everything as of_blocks}
 use Rattle.file_coding.specs.File.{body_of, packed_from, packed, file_bits, file_of_residuals, file_of}
-use Rattle.file_decoding.specs.Files.{behind_body, body_test, head_at, file_test}
+use Rattle.file_decoding.specs.Files.{after_body, body_test, head_at, file_test}
 
 unfoldable pub everything : Unit {0}
-unfolding of_headers of_residuals of_samples of_blocks body_of packed_from packed file_bits file_of_residuals file_of behind_body body_test head_at file_test
+unfolding of_headers of_residuals of_samples of_blocks body_of packed_from packed file_bits file_of_residuals file_of after_body body_test head_at file_test
 everything = tt

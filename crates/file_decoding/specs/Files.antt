@@ -42,14 +42,14 @@ pub record IsFile (bytes : List ℕ) (p : Params) (c : Image) : Type 0 where
   pub text : bits_of_bytes bytes ≡ header ++ body ++ replicate fill false
 
 -- the bits after the body that they begin with, or its first fault in bit order; the file has `count` bits
-abbrev pub behind_by : Coder → ℕ → Params → List Bool → Result (List Bool) Fault
-behind_by (Sample umax gamma_star gamma_zero start) count p bits =
+abbrev pub after_by : Coder → ℕ → Params → List Bool → Result (List Bool) Fault
+after_by (Sample umax gamma_star gamma_zero start) count p bits =
     sample_body_at count (settings p) (places p.shape p.order) bits >>= λ read. Ok read.1
-behind_by (Block size restricted reference) count p bits =
+after_by (Block size restricted reference) count p bits =
     block_body_at count (record { bits = p.kind.bits; restricted = restricted }) size reference (sample_count p.shape) bits >>= λ read. Ok read.1
 
-unfoldable pub behind_body : ℕ → Params → List Bool → Result (List Bool) Fault
-behind_body count p bits = behind_by p.coder count p bits
+unfoldable pub after_body : ℕ → Params → List Bool → Result (List Bool) Fault
+after_body count p bits = after_by p.coder count p bits
 
 -- whether a bit is one
 abbrev pub some_one : List Bool → Bool
@@ -62,9 +62,9 @@ fill_test word bits = refuse_if (nat_le (8 * word) (length bits)) (TooLong (leng
 
 -- what comes after the header: the body, and then the fill
 unfoldable pub body_test : ℕ → Params → List Bool → Test
-body_test count p bits = behind_body count p bits >>= λ rest. fill_test p.word rest
+body_test count p bits = after_body count p bits >>= λ rest. fill_test p.word rest
 
--- a header after which there are as many bits as the shortest body has: its parameters and these bits, or the first refusal
+-- a header after which there are as many bits as every body has: its parameters and these bits, or the first refusal
 unfoldable pub head_at : Reading Params
 head_at bits = header_at bits >>= λ header. least_test (length bits) header.0 header.1 >> Ok header
 

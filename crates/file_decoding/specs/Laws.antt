@@ -22,7 +22,7 @@ FileIsFine = (bytes : List ℕ) (p : Params) (c : Image) → IsLawful p → IsFi
 abbrev pub FineIsFile : Type 0
 FineIsFile = (bytes : List ℕ) → file_test (bits_of_bytes bytes) ≡ fine → (p : Params) × (c : Image) × IsLawful p × IsFile bytes p c
 
--- no file is shorter: after its header there are as many bits as the shortest body has
+-- no file is shorter: after its header there are as many bits as every body has
 abbrev pub NoShorterFile : Type 0
 NoShorterFile =
     (bytes : List ℕ) (p : Params) (c : Image) → IsLawful p → (f : IsFile bytes p c)

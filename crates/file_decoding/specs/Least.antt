@@ -1,4 +1,4 @@
--- The fewest bits that a body has.
+-- A number of bits that every body has.
 use Rattle.std.specs.Prelude.{ℕ, ◌*◌, nat_lt, Bool, List, length}
 use Rattle.cube_core.specs.declared.fault.Fault.TheVariants.{Truncated}
 use Rattle.cube_core.specs.Steps.{Test, refuse_if}
@@ -13,7 +13,7 @@ abbrev pub least_by : Coder → ℕ → ℕ
 least_by (Sample umax gamma_star gamma_zero start) n = n
 least_by (Block size restricted reference) n = 3 * segment_count n size reference
 
--- the fewest bits of a body by these parameters
+-- every body by these parameters has as many
 abbrev pub least_length : Params → ℕ
 least_length p = least_by p.coder (sample_count p.shape)
 

@@ -45,7 +45,7 @@ HasResiduals p c tile deltas n =
     (i b : ℕ) → i < tile.columns → b < n
     → mapped_residual p c (tile.place.z + b) (tile.place.y * p.shape.columns + (tile.place.x + i)) ≡ slice_index deltas (i * tile.bands + b)
 
--- d is c with these residuals at the places of the tile, and bands have come past them
+-- d is c before the tile and has these residuals at its places, and bands have come past them
 pub record IsFilled (p : Params) (c d : Image) (tile : Tile) (bands : List Learner) (deltas : List ℕ) : Type 0 where
   pub same : SameBefore p.order c d (start_of p tile)
   pub residuals : HasResiduals p d tile deltas tile.bands

@@ -9,7 +9,7 @@ ghost use Rattle.header_bits.specs.declared.params.Params.{Params as Parameters}
 ghost use Rattle.header_bits.specs.Bits.{bits_of_bytes};
 ghost use Rattle.header_bits.specs.Lawful.{IsLawful};
 ghost use Rattle.header_bits.specs.Header.{header_at, BeginsWithTable};
-ghost use Rattle.file_decoding.specs.Files.{IsFile, behind_body, fill_test, head_at, file_test};
+ghost use Rattle.file_decoding.specs.Files.{IsFile, after_body, fill_test, head_at, file_test};
 ghost use Rattle.cube_core.specs.Order.{IsPlaceOf, goes_along_rows};
 ghost use Rattle.file_decoding.specs.Decoding.{TakesCube, AnswersOr, IsNoFile, ReadsFile};
 
@@ -29,7 +29,7 @@ use std::alloc::Global;
 /// Returns the parameters and the cube of a file of at most 2^60 bytes.
 ///
 /// The refusals, in this order: those of the header, however little memory there is; `WantOfMemory` if the header's
-/// tables can't be allocated; `Truncated` if fewer bits follow the header than the shortest body has; `WantOfMemory`;
+/// tables can't be allocated; `Truncated` if fewer bits follow the header than `least_length`; `WantOfMemory`;
 /// the first fault of the body in bit order, which is `Truncated`, `BadCode`, `BadOption` or `RunPastSegment`;
 /// `TooLong` if the bits of an output word or more follow the body; `BadFill` if one of the fill bits is a one. So
 /// nothing is allocated before the first `Truncated` where the header has no table. `Truncated` has the number of the
@@ -73,11 +73,11 @@ fn time_of(params: &Params, place: Place) -> u64
 fn take_cube(alloc: Global, params: &Params, reader: &mut BitReader) -> Result<Cube, Fault>
     requires { IsLawful params.now }
     ensures taken { IfOk result (λ cube. TakesCube params.now cube reader.old.left reader.new.left) }
-    ensures refused { IfErr result (λ e. (e ≡ WantOfMemory) ⊎ (behind_body reader.old.count params.now reader.old.left ≡ Err e)) }
+    ensures refused { IfErr result (λ e. (e ≡ WantOfMemory) ⊎ (after_body reader.old.count params.now reader.old.left ≡ Err e)) }
     ensures count { reader.new.count ≡ reader.old.count }
 {
     let mut cube = Cube::new(alloc, params.shape, params.kind)?;
-    // Both are borrowed as slices, whose lengths stay.
+    // The predictors, and the residuals below, are borrowed as slices, whose lengths stay.
     let mut predictors = all_bands(alloc, params)?;
     let bands = &mut predictors[..];
     let mut decoder = Decoder::new(alloc, params)?;

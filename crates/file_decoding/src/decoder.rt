@@ -1,4 +1,4 @@
-//! The reading end: one of the two entropy coders, which gives an image's residuals in encoding order.
+//! The entropy coder of an image, either of the two, as it reads: it gives the residuals in encoding order.
 
 ghost use Rattle.std.specs.Prelude.{◌≡◌, ◌+◌, ◌^◌, ◌<◌, ◌≤◌, ℕ, [], length, Err, Some, IsOk, IfOk, IfErr, OnErr};
 ghost use Rattle.cube_core.specs.declared.fault.Fault.{Fault as Refusal};
@@ -66,7 +66,7 @@ impl Decoder {
     /// in encoding order.
     ///
     /// They are of one row, at least one and at most 64. Where the bits encode fewer, it returns the first fault of the
-    /// body, as `next` does, and what is in `deltas` is unspecified. It allocates nothing.
+    /// body; the reader's position, the coder and `deltas` are then unspecified. It allocates nothing.
     #[inline]
     pub fn next_run(
         &mut self,
@@ -92,7 +92,7 @@ impl Decoder {
     /// The first is at `index` in encoding order.
     ///
     /// They are of one row and column, at least one and at most 65,536. Where the bits encode fewer, it returns the first
-    /// fault of the body, as `next` does, and what is in `deltas` is unspecified. It allocates nothing.
+    /// fault of the body; the reader's position, the coder and `deltas` are then unspecified. It allocates nothing.
     #[inline]
     pub fn next_column(
         &mut self,

@@ -1,4 +1,4 @@
-//! The fewest bits that a body has.
+//! A number of bits that every body has.
 
 ghost use Rattle.std.specs.Prelude.{◌≡◌};
 ghost use Rattle.header_bits.specs.Lawful.{IsLawful};
@@ -9,8 +9,8 @@ use cube_core::fault::Fault;
 use header_bits::bit_reader::BitReader;
 use header_bits::params::{Coder, Params};
 
-/// Returns the fewest bits that a body has under lawful parameters: one for each sample, or three for each segment of
-/// their blocks. It allocates nothing.
+/// Returns a number of bits that every body has under lawful parameters: one for each sample, or three for each segment of their
+/// blocks. It allocates nothing.
 pub fn least_length(params: &Params) -> u64
     requires { IsLawful params.now }
     ensures { result ≡ fewest_bits params.now }
@@ -26,7 +26,7 @@ pub fn least_length(params: &Params) -> u64
     }
 }
 
-/// Tests that as many bits are left as the shortest body has, whatever they are. Returns `Truncated` otherwise.
+/// Tests that at least `least_length` bits are left, whatever they are. Returns `Truncated` otherwise.
 pub(crate) fn test_length(params: &Params, reader: &BitReader) -> Result<(), Fault>
     requires { IsLawful params.now }
     ensures { result ≡ least_test reader.now.count params.now reader.now.left }

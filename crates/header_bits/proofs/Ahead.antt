@@ -15,8 +15,8 @@ use Rattle.header_bits.proofs.Words.{highest_shifted}
 pub window_ahead : (bytes : List ℕ) (at word : ℕ) (left : List Bool) → drop at (bits_of_bytes bytes) ≡ left → at + 57 ≤ 8 * length bytes
     → IsWindow bytes at word → IsAhead 57 left word
 window_ahead bytes at word left is enough h = λ n le.
-    let behind : drop (at + n) (bits_of_bytes bytes) ≡ drop n left = sym (drop-drop n at (bits_of_bytes bytes)) ∙ ap (drop n) is in
-    sym is ∙ h n (omega arith) (omega arith) ∙ ap (λ (x : List Bool). bits_of n (word / 2 ^ (64 - n)) ++ x) behind
+    let later : drop (at + n) (bits_of_bytes bytes) ≡ drop n left = sym (drop-drop n at (bits_of_bytes bytes)) ∙ ap (drop n) is in
+    sym is ∙ h n (omega arith) (omega arith) ∙ ap (λ (x : List Bool). bits_of n (word / 2 ^ (64 - n)) ++ x) later
 
 -- so many bits are left
 pub ahead_length : (most : ℕ) (bits : List Bool) (word : ℕ) → IsAhead most bits word → most ≤ length bits
@@ -55,6 +55,6 @@ number_ahead count highest n most bits word h le =
     ap (number_at count n) (front_dropped highest (there / 2 ^ n) bits (bits_of n there ++ rest) split) ∙ number_low count n there rest
 
 -- the bits of a word between two positions
-pub shifted_behind : (word highest n : ℕ) → n < 64 → highest + n ≤ 64
+pub shifted_after : (word highest n : ℕ) → n < 64 → highest + n ≤ 64
     → (word * 2 ^ highest % 2 ^ 64) / 2 / 2 ^ (63 - n) ≡ word / 2 ^ (64 - (highest + n)) % 2 ^ n
-shifted_behind word highest n few le = two_shifts (word * 2 ^ highest % 2 ^ 64) n few ∙ highest_shifted word highest n le
+shifted_after word highest n few le = two_shifts (word * 2 ^ highest % 2 ^ 64) n few ∙ highest_shifted word highest n le

@@ -242,7 +242,7 @@ coder_back (Sample umax gamma_star gamma_zero (Constant k)) = refl
 coder_back (Sample umax gamma_star gamma_zero (Each values)) = refl
 coder_back (Block size restricted reference) = refl
 
--- what the parts of a header say
+-- the contents of the parts of a header
 all_contents : Params → HeaderContents
 all_contents p = ((((image_part_of p, predictor_part_of p), weights_of p.start), coder_part_of p.coder), entries_of p.coder)
 

@@ -89,12 +89,12 @@ module _ {f : Reader} {old : List ℕ} {start : List Bool} {i : ℕ} {xs : List 
   pub some_more : {new : List ℕ} {after : List Bool} → (n : ℕ) → AreRead f old start i xs bits → i + n ≤ length xs → length new ≡ n
       → each_at f (take n (drop i xs)) bits ≡ Ok (new, after) → AreRead f old start (i + n) (take i xs ++ (new ++ drop n (drop i xs))) after
   some_more {new} {after} n h le long read =
-      let behind : List ℕ = drop n (drop i xs) in
-      let whole : (take i xs ++ new) ++ behind ≡ take i xs ++ (new ++ behind) = append_assoc (take i xs) new behind in
+      let later : List ℕ = drop n (drop i xs) in
+      let whole : (take i xs ++ new) ++ later ≡ take i xs ++ (new ++ later) = append_assoc (take i xs) new later in
       let size : length (take i xs ++ new) ≡ i + n = omega (arith, length-append (take i xs) new, length-take i xs) in
-      each_step (take n (drop i xs)) behind new (take i xs ++ (new ++ behind)) (i + n) after h (sym (take-append-drop n (drop i xs))) read
-      (ap (take (i + n)) (sym whole) ∙ take_at (take i xs ++ new) behind (i + n) size) (ap (drop (i + n)) (sym whole)
-      ∙ drop_at (take i xs ++ new) behind (i + n) size)
+      each_step (take n (drop i xs)) later new (take i xs ++ (new ++ later)) (i + n) after h (sym (take-append-drop n (drop i xs))) read
+      (ap (take (i + n)) (sym whole) ∙ take_at (take i xs ++ new) later (i + n) size) (ap (drop (i + n)) (sym whole)
+      ∙ drop_at (take i xs ++ new) later (i + n) size)
 
   pub some_end : {e : Fault} → (n : ℕ) → AreRead f old start i xs bits → each_at f (take n (drop i xs)) bits ≡ Err e → each_at f old start ≡ Err e
   some_end {e} n h read = each_fails (take n (drop i xs)) (drop n (drop i xs)) e h (sym (take-append-drop n (drop i xs))) read

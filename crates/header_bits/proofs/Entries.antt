@@ -61,19 +61,19 @@ minus : (bound : ℤ) (n : ℕ) → bound ≡ pos n → pos 0 -ℤ bound ≡ neg
 minus bound n e = omega (arith, ints, e)
 
 -- a weight that is checked by both bounds
-judged : (bits : ℕ) (weight value bound : ℤ) (within : Bool) (r : Test) → bound ≡ pos (2 ^ (bits - 1)) → value ≡ weight
+checked_by_both : (bits : ℕ) (weight value bound : ℤ) (within : Bool) (r : Test) → bound ≡ pos (2 ^ (bits - 1)) → value ≡ weight
     → within ≡ (int_le (pos 0 -ℤ bound) weight && int_le weight (bound -ℤ pos 1)) → r ≡ refuse_if (not within) (FieldRange field.WeightEntry value)
     → r ≡ weight_fault bits weight
-judged bits weight value bound within r e f is h =
+checked_by_both bits weight value bound within r e f is h =
     h ∙ rw (is, f, minus bound (2 ^ (bits - 1)) e, e) refl
 
 -- the least one holds, so that the greatest decides
-pub judged_above : (bits : ℕ) (weight value bound : ℤ) (within : Bool) (r : Test) → bound ≡ pos (2 ^ (bits - 1)) → value ≡ weight
+pub checked_above : (bits : ℕ) (weight value bound : ℤ) (within : Bool) (r : Test) → bound ≡ pos (2 ^ (bits - 1)) → value ≡ weight
     → int_le (pos 0 -ℤ bound) weight ≡ true → within ≡ int_le weight (bound -ℤ pos 1) → r ≡ refuse_if (not within) (FieldRange field.WeightEntry value)
     → r ≡ weight_fault bits weight
-judged_above bits weight value bound within r e f low is h = judged bits weight value bound within r e f (rw low is) h
+checked_above bits weight value bound within r e f low is h = checked_by_both bits weight value bound within r e f (rw low is) h
 
 -- a weight below the least one
-pub judged_below : (bits : ℕ) (weight value bound : ℤ) (within : Bool) (r : Test) → bound ≡ pos (2 ^ (bits - 1)) → value ≡ weight
+pub checked_below : (bits : ℕ) (weight value bound : ℤ) (within : Bool) (r : Test) → bound ≡ pos (2 ^ (bits - 1)) → value ≡ weight
     → int_le (pos 0 -ℤ bound) weight ≡ false → within ≡ false → r ≡ refuse_if (not within) (FieldRange field.WeightEntry value) → r ≡ weight_fault bits weight
-judged_below bits weight value bound within r e f low is h = judged bits weight value bound within r e f (rw low is) h
+checked_below bits weight value bound within r e f low is h = checked_by_both bits weight value bound within r e f (rw low is) h

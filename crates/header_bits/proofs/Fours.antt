@@ -25,12 +25,12 @@ four_within k limit (a ∷ b ∷ c ∷ []) r s t len h = absurd (omega arith)
 four_within k limit (a ∷ b ∷ c ∷ d ∷ []) r s t len h = (h.0, h.1.0, h.1.1.0, h.1.1.1.0)
 four_within k limit (a ∷ b ∷ c ∷ d ∷ e ∷ xs) r s t len h = absurd (omega arith)
 
-pub fours_behind : (k limit i n : ℕ) (vs new : List ℕ) → i + n ≤ length vs → length new ≡ n → Within k limit (drop i vs)
+pub fours_after : (k limit i n : ℕ) (vs new : List ℕ) → i + n ≤ length vs → length new ≡ n → Within k limit (drop i vs)
     → Within k limit (drop (i + n) (take i vs ++ (new ++ drop n (drop i vs))))
-fours_behind k limit i n vs new le long h =
-    let behind : List ℕ = drop n (drop i vs) in
+fours_after k limit i n vs new le long h =
+    let later : List ℕ = drop n (drop i vs) in
     let size : length (take i vs ++ new) ≡ i + n = omega (arith, length-append (take i vs) new, length-take i vs) in
-    let rest : drop (i + n) (take i vs ++ (new ++ behind)) ≡ behind = ap (drop (i + n)) (sym (append_assoc (take i vs) new behind)) ∙ drop_at _ _ _ size in
+    let rest : drop (i + n) (take i vs ++ (new ++ later)) ≡ later = ap (drop (i + n)) (sym (append_assoc (take i vs) new later)) ∙ drop_at _ _ _ size in
     rw rest (all_drop _ n _ h)
 
 pub bound_more : (bound q i : ℕ) (vs : List ℕ) → i < length vs → AllByRecursion (λ v. v ≤ bound) (take i vs)

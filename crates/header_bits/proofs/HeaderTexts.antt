@@ -62,15 +62,15 @@ constants_length umax gamma_star gamma_zero values =
 
 -- ---- what is written
 
-behind : (old a b one two : List Bool) → one ≡ old ++ a → two ≡ one ++ b → two ≡ old ++ (a ++ b)
-behind old a b one two first second = second ∙ ap (λ (x : List Bool). x ++ b) first ∙ append_assoc old a b
+later : (old a b one two : List Bool) → one ≡ old ++ a → two ≡ one ++ b → two ≡ old ++ (a ++ b)
+later old a b one two first second = second ∙ ap (λ (x : List Bool). x ++ b) first ∙ append_assoc old a b
 
 pub header_written : (p : Params) (old one two three four new : List Bool) → one ≡ old ++ image_bits p → two ≡ one ++ predictor_bits p
     → three ≡ two ++ weight_bits p.start → four ≡ three ++ coder_bits p → new ≡ four ++ constant_bits p.coder → new ≡ old ++ header_of p
 unfolding header_of
 header_written p old one two three four new a b c d e =
-    behind old _ (constant_bits p.coder) four new
-    (behind old _ (coder_bits p) three four (behind old _ (weight_bits p.start) two three (behind old _ (predictor_bits p) one two a b) c) d) e
+    later old _ (constant_bits p.coder) four new
+    (later old _ (coder_bits p) three four (later old _ (weight_bits p.start) two three (later old _ (predictor_bits p) one two a b) c) d) e
 
 pub header_length : (p : Params) → IsLawful p → length (header_of p) ≡ 152 + length (weight_bits p.start) + length (constant_bits p.coder)
 unfolding header_of
@@ -172,9 +172,9 @@ pub left_within : (p : Params) (bits left : List Bool) → header_at bits ≡ Ok
 left_within p bits left e = let found = header_exact.found p bits left e in omega (arith, ap length found.2, length-append found.0 left)
 
 -- it is what comes after as many bits as were read
-pub left_behind : (p : Params) (bits left : List Bool) (n : ℕ) → header_at bits ≡ Ok (p, left) → n ≡ length bits - length left
+pub left_after : (p : Params) (bits left : List Bool) (n : ℕ) → header_at bits ≡ Ok (p, left) → n ≡ length bits - length left
     → header_at bits ≡ Ok (p, drop n bits)
-left_behind p bits left n e size =
+left_after p bits left n e size =
     let found = header_exact.found p bits left e in
     let at : length found.0 ≡ n = omega (arith, ap length found.2, length-append found.0 left, size) in
     subst (λ (x : List Bool). header_at bits ≡ Ok (p, x)) (sym (ap (drop n) found.2 ∙ drop_at found.0 left n at)) e
@@ -199,6 +199,6 @@ header_stands p bits left all bytes e size n =
     let front : found.0 ≡ take (8 * bytes) bits = sym (ap (take (8 * bytes)) found.2 ∙ take_at found.0 left (8 * bytes) at) in
     record {
       within = omega (arith, long, at);
-      reads = left_behind p bits left (8 * bytes) e (omega (arith, at, long));
+      reads = left_after p bits left (8 * bytes) e (omega (arith, at, long));
       spelt = subst (λ (h : List Bool). SpellsHeader p h) front found.1;
     }

@@ -8,7 +8,7 @@ use Rattle.std.proofs.Math.Nat.{lt-div-mul-add}
 abbrev pub begun : ℕ → ℕ → ℕ
 begun r i = i / r * ((r + 63) / 64) + (i % r + 63) / 64
 
--- an interval's border, or none, is met by k blocks from place m of interval q on
+-- before block m of interval q
 pub begun_at : (r q m : ℕ) → m < r → begun r (q * r + m) ≡ q * ((r + 63) / 64) + (m + 63) / 64
 begun_at r q m lt = rw (div-mul-add q r m lt, mod-mul-add q r m lt) refl
 
@@ -17,7 +17,7 @@ begun_end r q pos =
     let next : q * r + r ≡ (q + 1) * r + 0 = omega arith in
     rw next (begun_at r (q + 1) 0 pos ∙ omega arith)
 
--- from place m of interval q on, up to k blocks, of which none passes the next border
+-- before the block k blocks after block m of interval q, which is at most the next interval's first one
 pub begun_on : (r q m k : ℕ) → m + k ≤ r → 1 ≤ r → begun r (q * r + m + k) ≡ q * ((r + 63) / 64) + (m + k + 63) / 64
 begun_on r q m k le pos =
     elim (cases_lt (m + k) r) [
@@ -25,7 +25,7 @@ begun_on r q m k le pos =
       | inr ge ↦ (let e : q * r + m + k ≡ q * r + r = omega arith in let f : m + k ≡ r = omega arith in rw (e, f) (begun_end r q pos))
     ]
 
--- so from any place on
+-- before the block k blocks after block i, which is at most the next interval's first one
 pub begun_within : (r i k : ℕ) → 1 ≤ r → k ≤ r - i % r → begun r (i + k) ≡ i / r * ((r + 63) / 64) + (i % r + k + 63) / 64
 begun_within r i k pos le =
     let whole = div-add-mod' i r in

@@ -10,8 +10,8 @@ use Rattle.std.specs.Prelude.{Result, OnOk}
 use Rattle.std.proofs.lemmas.Bool.{cases_lt}
 
 -- of the values up to the size nothing comes after them
-pub nothing_behind : (size : ℕ) (values : List ℕ) → drop size (take size values) ≡ []
-nothing_behind size values = drop_all size (take size values) (omega (arith, length-take size values))
+pub nothing_after : (size : ℕ) (values : List ℕ) → drop size (take size values) ≡ []
+nothing_after size values = drop_all size (take size values) (omega (arith, length-take size values))
 
 -- the values of blocks of zeros
 pub values_of_zeros : (n size : ℕ) → flat_map (λ b. b) (replicate n (zeros size)) ≡ zeros (n * size)
@@ -22,7 +22,7 @@ values_of_zeros (suc n) size =
 
 -- zero blocks in hand
 pub run_in_hand : (n size : ℕ) (values : List ℕ) → flat_map (λ b. b) (replicate n (zeros size)) ≡ drop size (take size values) ++ zeros (n * size)
-run_in_hand n size values = rw (nothing_behind size values) (values_of_zeros n size)
+run_in_hand n size values = rw (nothing_after size values) (values_of_zeros n size)
 
 pub first_in_hand : (size i spare : ℕ) (values : List ℕ) → i < size → size ≤ length values → drop i (take size values) ++ zeros spare
     ≡ get_or values i 0 ∷ (drop (i + 1) (take size values) ++ zeros spare)
@@ -35,36 +35,36 @@ pub taken_size : (size : ℕ) (values : List ℕ) → size ≤ 64 → length val
 taken_size size values le len = omega (arith, length-take size values)
 
 pub empty_hand : (size i spare : ℕ) (values : List ℕ) → i ≡ size → spare ≡ 0 → drop i (take size values) ++ zeros spare ≡ []
-empty_hand size i spare values e f = rw (e, f, nothing_behind size values) refl
+empty_hand size i spare values e f = rw (e, f, nothing_after size values) refl
 
-pub first_of_hand : (size at count spare : ℕ) (values copied behind : List ℕ) → at + count ≤ size → length copied ≡ count → copied ≡ take count (drop at values)
-    → drop at (take size values) ++ zeros spare ≡ take count (copied ++ behind) ++ (drop (at + count) (take size values) ++ zeros spare)
-first_of_hand size at count spare values copied behind le long same =
+pub first_of_hand : (size at count spare : ℕ) (values copied later : List ℕ) → at + count ≤ size → length copied ≡ count → copied ≡ take count (drop at values)
+    → drop at (take size values) ++ zeros spare ≡ take count (copied ++ later) ++ (drop (at + count) (take size values) ++ zeros spare)
+first_of_hand size at count spare values copied later le long same =
     let here : List ℕ = drop at (take size values) in
     let more : at + (size - at) ≡ size = omega arith in
     let inner : here ≡ take (size - at) (drop at values) = ap (λ n. drop at (take n values)) (sym more) ∙ drop-take at (size - at) values in
-    let front : take count here ≡ take count (copied ++ behind) = ap (take count) inner ∙ take-take count (size - at) (drop at values) (omega arith) ∙ sym same
-    ∙ sym (take_at copied behind count long) in
-    let split : here ≡ take count (copied ++ behind) ++ drop (at + count) (take size values) = sym (take-append-drop count here)
-    ∙ ap (λ (vs : List ℕ). vs ++ drop count here) front ∙ ap (λ (vs : List ℕ). take count (copied ++ behind) ++ vs) (drop-drop count at (take size values)) in
-    ap (λ (vs : List ℕ). vs ++ zeros spare) split ∙ append_assoc (take count (copied ++ behind)) (drop (at + count) (take size values)) (zeros spare)
+    let front : take count here ≡ take count (copied ++ later) = ap (take count) inner ∙ take-take count (size - at) (drop at values) (omega arith) ∙ sym same
+    ∙ sym (take_at copied later count long) in
+    let split : here ≡ take count (copied ++ later) ++ drop (at + count) (take size values) = sym (take-append-drop count here)
+    ∙ ap (λ (vs : List ℕ). vs ++ drop count here) front ∙ ap (λ (vs : List ℕ). take count (copied ++ later) ++ vs) (drop-drop count at (take size values)) in
+    ap (λ (vs : List ℕ). vs ++ zeros spare) split ∙ append_assoc (take count (copied ++ later)) (drop (at + count) (take size values)) (zeros spare)
 
-pub zeros_of_hand : (size at count spare : ℕ) (values filled behind : List ℕ) → at ≡ size → count ≤ spare → length filled ≡ count → filled ≡ zeros count
-    → drop at (take size values) ++ zeros spare ≡ take count (filled ++ behind) ++ (drop at (take size values) ++ zeros (spare - count))
-zeros_of_hand size at count spare values filled behind same le long are =
-    let none : drop at (take size values) ≡ [] = ap (λ n. drop n (take size values)) same ∙ nothing_behind size values in
-    let front : take count (filled ++ behind) ≡ zeros count = take_at filled behind count long ∙ are in
+pub zeros_of_hand : (size at count spare : ℕ) (values filled later : List ℕ) → at ≡ size → count ≤ spare → length filled ≡ count → filled ≡ zeros count
+    → drop at (take size values) ++ zeros spare ≡ take count (filled ++ later) ++ (drop at (take size values) ++ zeros (spare - count))
+zeros_of_hand size at count spare values filled later same le long are =
+    let none : drop at (take size values) ≡ [] = ap (λ n. drop n (take size values)) same ∙ nothing_after size values in
+    let front : take count (filled ++ later) ≡ zeros count = take_at filled later count long ∙ are in
     let parts : count + (spare - count) ≡ spare = omega arith in
     rw (none, front) (ap zeros (sym parts) ∙ sym (replicate-append-replicate count (spare - count) 0))
 
 -- numbers that were written after others
-pub written_more : (at count : ℕ) (xs ys behind : List ℕ) → at ≤ length xs → count ≤ length ys → take (at + count) (take at xs ++ (ys ++ behind))
+pub written_more : (at count : ℕ) (xs ys later : List ℕ) → at ≤ length xs → count ≤ length ys → take (at + count) (take at xs ++ (ys ++ later))
     ≡ take at xs ++ take count ys
-written_more at count xs ys behind first second =
+written_more at count xs ys later first second =
     let long : length (take at xs) ≡ at = omega (arith, length-take at xs) in
-    take-add at count (take at xs ++ (ys ++ behind)) ∙ ap (λ (vs : List ℕ). vs ++ take count (drop at (take at xs ++ (ys ++ behind))))
-    (take_at (take at xs) (ys ++ behind) at long) ∙ ap (λ (vs : List ℕ). take at xs ++ take count vs) (drop_at (take at xs) (ys ++ behind) at long)
-    ∙ ap (λ (vs : List ℕ). take at xs ++ vs) (take-append-le count ys behind second)
+    take-add at count (take at xs ++ (ys ++ later)) ∙ ap (λ (vs : List ℕ). vs ++ take count (drop at (take at xs ++ (ys ++ later))))
+    (take_at (take at xs) (ys ++ later) at long) ∙ ap (λ (vs : List ℕ). take at xs ++ take count vs) (drop_at (take at xs) (ys ++ later) at long)
+    ∙ ap (λ (vs : List ℕ). take at xs ++ vs) (take-append-le count ys later second)
 
 -- one value more in the array
 pub held_more : (values : List ℕ) (i x : ℕ) → i < length values → take (i + 1) (set values i x) ≡ take i values ++ x ∷ []
@@ -103,14 +103,14 @@ on_ok_of (Ok x) P R f p = f p
 on_ok_of (Err e) P R f p = tt
 
 -- numbers that are written after the values held
-pub held_all : (values list behind : List ℕ) (held : ℕ) → held ≤ length values → take (held + length list) (take held values ++ (list ++ behind))
+pub held_all : (values list later : List ℕ) (held : ℕ) → held ≤ length values → take (held + length list) (take held values ++ (list ++ later))
     ≡ take held values ++ list
-held_all values list behind held le =
+held_all values list later held le =
     let long : held + length list ≡ length (take held values ++ list) = omega (arith, le, length-append (take held values) list, length-take held values) in
-    ap (λ (x : List ℕ). take (held + length list) x) (sym (append_assoc (take held values) list behind)) ∙ take_at (take held values ++ list) behind
+    ap (λ (x : List ℕ). take (held + length list) x) (sym (append_assoc (take held values) list later)) ∙ take_at (take held values ++ list) later
     (held + length list) (sym long)
 
-pub take_behind : (a b : List ℕ) (n m : ℕ) → n ≡ length a + m → take n (a ++ b) ≡ a ++ take m b
-take_behind [] b n m e = (let f : n ≡ m = omega arith in rw f refl)
-take_behind (x ∷ a) b zero m e = absurd (omega arith)
-take_behind (x ∷ a) b (suc n) m e = ap (λ (vs : List ℕ). x ∷ vs) (take_behind a b n m (omega arith))
+pub take_after : (a b : List ℕ) (n m : ℕ) → n ≡ length a + m → take n (a ++ b) ≡ a ++ take m b
+take_after [] b n m e = (let f : n ≡ m = omega arith in rw f refl)
+take_after (x ∷ a) b zero m e = absurd (omega arith)
+take_after (x ∷ a) b (suc n) m e = ap (λ (vs : List ℕ). x ∷ vs) (take_after a b n m (omega arith))

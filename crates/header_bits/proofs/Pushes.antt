@@ -4,7 +4,7 @@ use Rattle.std.proofs.lemmas.List.{append-nil, length-append}
 use Rattle.header_bits.specs.Bits.{bits_of, bits_of_bytes}
 use Rattle.header_bits.proofs.Numbers.{no_bits, length-bits_of}
 use Rattle.header_bits.proofs.Bytes.{length-bits_of_bytes}
-use Rattle.header_bits.proofs.Words.{pushed_behind, two_parts}
+use Rattle.header_bits.proofs.Words.{pushed_after, two_parts}
 
 pub written_length : (bytes : List ℕ) (held part : ℕ) (bits : List Bool) → bits_of_bytes bytes ++ bits_of held part ≡ bits
     → length bits ≡ 8 * length bytes + held
@@ -17,8 +17,8 @@ none_held held part bits e =
     sym (ap (λ k. bits_of k part ++ bits_of (64 - held) bits) e ∙ ap (λ (x : List Bool). x ++ bits_of (64 - held) bits) (no_bits part)
     ∙ ap (λ k. bits_of k bits) all)
 
-pub nothing_behind : (bytes : List ℕ) (held part : ℕ) → held ≡ 0 → bits_of_bytes bytes ≡ bits_of_bytes bytes ++ bits_of held part
-nothing_behind bytes held part e =
+pub nothing_after : (bytes : List ℕ) (held part : ℕ) → held ≡ 0 → bits_of_bytes bytes ≡ bits_of_bytes bytes ++ bits_of held part
+nothing_after bytes held part e =
     sym (ap (λ k. bits_of_bytes bytes ++ bits_of k part) e ∙ ap (λ (x : List Bool). bits_of_bytes bytes ++ x) (no_bits part) ∙ append-nil (bits_of_bytes bytes))
 
 -- a push that fills the word
@@ -37,5 +37,5 @@ word_pushed bytes held part n bits word old new lt le e filled is =
 pub part_pushed : (bytes : List ℕ) (held part n bits : ℕ) (old : List Bool) → bits < 2 ^ n → held + n ≤ 64 → bits_of_bytes bytes ++ bits_of held part ≡ old
     → bits_of_bytes bytes ++ bits_of (held + n) (bit_or (part * 2 ^ n % 2 ^ 64) bits) ≡ old ++ bits_of n bits
 part_pushed bytes held part n bits old lt fits e =
-    ap (λ (x : List Bool). bits_of_bytes bytes ++ x) (pushed_behind held n part bits lt fits)
+    ap (λ (x : List Bool). bits_of_bytes bytes ++ x) (pushed_after held n part bits lt fits)
     ∙ sym (append_assoc (bits_of_bytes bytes) (bits_of held part) (bits_of n bits)) ∙ ap (λ (x : List Bool). x ++ bits_of n bits) e

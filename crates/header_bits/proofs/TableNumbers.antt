@@ -72,7 +72,7 @@ table_zeros count bits left =
 -- ---- one number more
 
 -- a number was taken, of those that are still to be read
-pub number_next : (n m bits code : ℕ) (left new : List Bool) → n ≡ suc m → code < 2 ^ bits → left ≡ bits_of bits code ++ new
+number_next : (n m bits code : ℕ) (left new : List Bool) → n ≡ suc m → code < 2 ^ bits → left ≡ bits_of bits code ++ new
     → values (number_fields n bits) left ≡ code ∷ values (number_fields m bits) new
 unfolding values
 number_next n m bits code left new e below taken =
@@ -82,22 +82,42 @@ number_next n m bits code left new e below taken =
     ap (λ k. values (number_fields k bits) left) e ∙ split ∙ ap (λ k. k ∷ values (number_fields m bits) (drop bits left)) same
     ∙ ap (λ (x : List Bool). code ∷ values (number_fields m bits) x) (sym p.1)
 
-pub number_enough : (n m bits : ℕ) (left : List Bool) → n ≡ suc m → n * bits ≤ length left → bits ≤ length left
+number_enough : (n m bits : ℕ) (left : List Bool) → n ≡ suc m → n * bits ≤ length left → bits ≤ length left
 number_enough n m bits left e le = (let split : n * bits ≡ m * bits + bits = ap (λ k. k * bits) e ∙ suc-mul m bits in omega (arith, split, le))
 
-pub number_whole : (n m bits code : ℕ) (left new : List Bool) → n ≡ suc m → n * bits ≤ length left → left ≡ bits_of bits code ++ new → m * bits ≤ length new
+number_whole : (n m bits code : ℕ) (left new : List Bool) → n ≡ suc m → n * bits ≤ length left → left ≡ bits_of bits code ++ new → m * bits ≤ length new
 number_whole n m bits code left new e le taken =
     let split : n * bits ≡ m * bits + bits = ap (λ k. k * bits) e ∙ suc-mul m bits in
     let long : length left ≡ bits + length new =
     ap length taken ∙ length-append (bits_of bits code) new ∙ ap (λ k. k + length new) (length-bits_of bits code) in
     omega (arith, split, le, long)
 
-pub number_rest : (n m bits code : ℕ) (left new : List Bool) → n ≡ suc m → code < 2 ^ bits → left ≡ bits_of bits code ++ new
+number_rest : (n m bits code : ℕ) (left new : List Bool) → n ≡ suc m → code < 2 ^ bits → left ≡ bits_of bits code ++ new
     → drop (m * bits) new ≡ drop (n * bits) left
 number_rest n m bits code left new e below taken =
     let p = taken_is bits code left new below taken in
     let split : bits + m * bits ≡ n * bits = sym (ap (λ k. k * bits) e ∙ suc-mul m bits ∙ omega arith) in
     ap (drop (m * bits)) p.1 ∙ drop-drop (m * bits) bits left ∙ ap (λ k. drop k left) split
+
+-- a number was taken, the i-th of so many: how those after it stand to those from it on
+pub record Takes (count i bits code : ℕ) (left new : List Bool) : Type 0 where
+  pub numbers : values (number_fields (count - i) bits) left ≡ code ∷ values (number_fields (count - (i + 1)) bits) new
+  pub rest : drop ((count - (i + 1)) * bits) new ≡ drop ((count - i) * bits) left
+  pub whole : (count - i) * bits ≤ length left → (count - (i + 1)) * bits ≤ length new
+
+pub number_taken : (count i bits code : ℕ) (left new : List Bool) → i < count → code < 2 ^ bits → left ≡ bits_of bits code ++ new
+    → Takes count i bits code left new
+number_taken count i bits code left new lt below taken =
+    let next : count - i ≡ suc (count - (i + 1)) = omega (arith, lt) in
+    record {
+      numbers = number_next _ _ bits code left new next below taken;
+      rest = number_rest _ _ bits code left new next below taken;
+      whole = λ le. number_whole _ _ bits code left new next le taken;
+    }
+
+-- so many bits are there for the next one
+pub number_there : (count i bits : ℕ) (left : List Bool) → i < count → (count - i) * bits ≤ length left → bits ≤ length left
+number_there count i bits left lt le = number_enough (count - i) (count - (i + 1)) bits left (omega (arith, lt)) le
 
 -- none is still to be read
 pub numbers_none : (n bits : ℕ) (left : List Bool) → n ≡ 0 → values (number_fields n bits) left ≡ []

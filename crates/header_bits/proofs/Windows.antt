@@ -56,12 +56,12 @@ window_shifted bytes at word within h n fits enough =
     let inside : drop r from ≡ bits_of n there ++ drop (r + n) from = front_dropped r (there / 2 ^ n) from (bits_of n there ++ drop (r + n) from) split in
     let position : drop at all ≡ drop r from = ap (λ k. drop k all) (sym here) ∙ sym (drop-drop r (8 * i) all) ∙ ap (drop r) (bits_of_bytes-drop i bytes) in
     let after : 8 * i + (r + n) ≡ at + n = omega arith in
-    let behind : drop (r + n) from ≡ drop (at + n) all =
+    let later : drop (r + n) from ≡ drop (at + n) all =
     ap (drop (r + n)) (sym (bits_of_bytes-drop i bytes)) ∙ drop-drop (r + n) (8 * i) all ∙ ap (λ k. drop k all) after in
     let same : bits_of n there ≡ bits_of n ((word * 2 ^ r % 2 ^ 64) / 2 ^ (64 - n)) =
     sym (ap (bits_of n) (highest_shifted word r n fits) ∙ bits_of-mod n n there (omega arith)) in
     position ∙ inside ∙ ap (λ (x : List Bool). x ++ drop (r + n) from) same
-    ∙ ap (λ (x : List Bool). bits_of n ((word * 2 ^ r % 2 ^ 64) / 2 ^ (64 - n)) ++ x) behind
+    ∙ ap (λ (x : List Bool). bits_of n ((word * 2 ^ r % 2 ^ 64) / 2 ^ (64 - n)) ++ x) later
 
 below_more : (m j word : ℕ) → word < 2 ^ m → m ≤ j → word < 2 ^ j
 below_more m j word lt le =

@@ -20,9 +20,9 @@ shifted v n le =
     ap (λ k. v * 2 ^ n % 2 ^ k) (sym size) ∙ parts ∙ rw (high, low) (omega arith)
 
 -- `(part << n) | bits`, of which the lowest bits are the part's and then the new ones
-pub pushed_behind : (held n part bits : ℕ) → bits < 2 ^ n → held + n ≤ 64
+pub pushed_after : (held n part bits : ℕ) → bits < 2 ^ n → held + n ≤ 64
     → bits_of (held + n) (bit_or (part * 2 ^ n % 2 ^ 64) bits) ≡ bits_of held part ++ bits_of n bits
-pushed_behind held n part bits lt fits =
+pushed_after held n part bits lt fits =
     let small : n ≤ 64 = omega arith in
     let kept : held ≤ 64 - n = omega arith in
     let whole : bit_or (part * 2 ^ n % 2 ^ 64) bits ≡ (part % 2 ^ (64 - n)) * 2 ^ n + bits =

@@ -23,7 +23,7 @@ use Rattle.header_bits.specs.PredictorPart.{predictor, predictor_fields, predict
 use Rattle.header_bits.specs.CoderPart.{coder, coder_fields, coder_numbers}
 use Rattle.header_bits.specs.TableParts.{weight_count, weights, has_constants, constants, table_fields, signed_code}
 
--- what the parts say, one after another
+-- the contents of the parts, one after another
 abbrev pub HeaderContents : Type 0
 HeaderContents = (((ImagePart × PredictorPart) × List ℤ) × CoderPart) × List ℕ
 

@@ -17,9 +17,9 @@ common nx ny nz = plain (sizes nx ny nz) (unsigned 8)
 abbrev pub cube_a : Order → Params
 cube_a order = record (common 3 2 2) { previous = 1; reduced = false; column = false; order = order }
 
--- weights in fine steps, and exponents that stay at -4
-abbrev pub fine_steps : Params
-fine_steps = record (common 1 3 2) { previous = 1; omega = 4; vmin = negsuc 3; vmax = negsuc 3 }
+-- coarse weights, and steps whose exponent stays at -4
+abbrev pub coarse_steps : Params
+coarse_steps = record (common 1 3 2) { previous = 1; omega = 4; vmin = negsuc 3; vmax = negsuc 3 }
 
 -- the most weight resolution, with one register size or another
 abbrev pub deep : ℕ → Params

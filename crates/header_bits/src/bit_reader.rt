@@ -113,7 +113,7 @@ impl<'a> BitReader<'a> {
         Ok(zeros)
     }
 
-    /// Returns a word whose 57 highest bits are the next ones, or `None` if fewer than 57 are left.
+    /// Returns a word whose 57 highest bits are the next bits, or `None` if fewer than 57 are left.
     ///
     /// A caller that finds a whole code in the word pays for one load, and continues with `skip`.
     #[inline(always)]
@@ -136,7 +136,7 @@ impl<'a> BitReader<'a> {
     }
 }
 
-/// Returns the `n` bits of a word that follow its `highest` highest ones, as a number.
+/// Returns the `n` bits of a word after its `highest` highest bits, as a number. Both are at most 63, and together at most 64.
 #[inline(always)]
 pub fn bits_after(word: u64, highest: u32, n: u32) -> u64
     requires highest { highest < 64 }
@@ -197,7 +197,7 @@ fn zeros_ahead(bytes: &[u8], at: u64, most: u64) -> u64
     most
 }
 
-/// Returns a word whose highest bits are the next ones, up to the end of the eighth byte from here.
+/// Returns a word whose highest bits are the next bits, up to the end of the eighth byte from here.
 fn window_at(bytes: &[u8], at: u64) -> u64
     requires small { length bytes.now ≤ 2 ^ 60 }
     requires within { at ≤ 8 * length bytes.now }

@@ -68,8 +68,8 @@ impl BitWriter {
     /// Reserves room for `bits` more bits, so that pushes of them succeed. The bits written so far stay,
     /// whatever is returned.
     ///
-    /// Where there is less room, it grows to these bits in whole bytes, or to as many as there are bits, and no
-    /// further. Returns `WantOfMemory` if the allocation fails, or if there would be more than 2^63 bits.
+    /// Where there is less room, it grows to these bits, filled up to whole bytes, or to as many bits as are written
+    /// if these are more, and no further. Returns `WantOfMemory` if the allocation fails, or if there would be more than 2^63 bits.
     #[inline(never)]
     pub fn reserve(&mut self, bits: u64) -> Result<(), Fault>
         ensures same { self.new.bits ≡ self.old.bits }
@@ -105,7 +105,7 @@ impl BitWriter {
         ensures refused { IfErr result (λ e. e ≡ WantOfMemory) }
     {
         if self.held + n < self.ready {
-            // Most numbers take this way, so it is short.
+            // Most pushes come this way, so it is short.
             self.part = (self.part << n) | bits;
             self.held += n;
             return Ok(());
@@ -226,7 +226,7 @@ fn append_word(bytes: &mut Vec<u8>, word: u64)
     ensures len { vec_len bytes.new ≡ vec_len bytes.old + 8 }
     ensures capacity { vec_capacity bytes.old ≤ vec_capacity bytes.new }
 {
-    // Byte by byte, since no call that may grow it then keeps the writer from staying in registers.
+    // Byte by byte: a call that may grow the bytes would keep the writer out of registers.
     let eight = word.to_be_bytes();
     for i in 0..eight.len() {
         bytes.push_reserved(eight[i]);

@@ -24,7 +24,7 @@ impl Params {
     /// Checks whether the parameters are lawful; if not, returns the first refusal in the order of the header's
     /// fields.
     ///
-    /// `FieldRange` names a parameter out of its own range, with its value, and `Disagree` a rule that two
+    /// `FieldRange` names a parameter out of its own range, with its value, and `Disagree` a rule that
     /// parameters break (CCSDS 123.0-B-1, "Header"). The first weight of a table that doesn't fit in the
     /// table's bits is refused as `WeightEntry`. It allocates nothing.
     pub fn check(&self) -> Result<(), Fault>
@@ -89,7 +89,7 @@ fn check_order(shape: Shape, order: Order) -> Result<(), Fault>
     }
 }
 
-/// Refuses parameters of the predictor.
+/// Refuses unlawful parameters of the predictor.
 fn check_predictor(params: &Params) -> Result<(), Fault>
     ensures fault { result ≡ predictor_fault params.now }
     ensures kind { OnOk result (IsKind params.now.kind) }
@@ -103,7 +103,7 @@ fn check_predictor(params: &Params) -> Result<(), Fault>
     check_register(params)
 }
 
-/// Refuses a register size, a weight resolution, and parameters of the weight update.
+/// Refuses an unlawful register size or weight resolution, and unlawful parameters of the weight update.
 fn check_register(params: &Params) -> Result<(), Fault>
     ensures fault { result ≡ register_fault params.now }
     ensures kind { OnOk result (IsKind params.now.kind) }
@@ -116,7 +116,7 @@ fn check_register(params: &Params) -> Result<(), Fault>
     check_update(params)
 }
 
-/// Refuses parameters of the weight update.
+/// Refuses unlawful parameters of the weight update.
 fn check_update(params: &Params) -> Result<(), Fault>
     ensures { result ≡ update_fault params.now }
 {
@@ -126,7 +126,7 @@ fn check_update(params: &Params) -> Result<(), Fault>
     disagree_if(params.vmax < params.vmin, Rule::ExponentOrder)
 }
 
-/// Refuses a table of weights that contradicts the other parameters.
+/// Refuses a weight table for its resolution, its length, or its first entry that doesn't fit in its bits.
 fn check_start(params: &Params) -> Result<(), Fault>
     requires previous { params.now.previous ≤ 15 }
     requires omega { params.now.omega ≤ 19 }
@@ -168,7 +168,7 @@ fn check_weight(bits: u32, weight: i32) -> Result<(), Fault>
     refuse_if(!(-bound <= weight && weight <= bound - 1), entry)
 }
 
-/// Refuses parameters of the entropy coder.
+/// Refuses unlawful parameters of the entropy coder.
 fn check_coder(params: &Params) -> Result<(), Fault>
     ensures { result ≡ coder_fault params.now params.now.coder }
 {
@@ -187,7 +187,7 @@ fn check_coder(params: &Params) -> Result<(), Fault>
     }
 }
 
-/// Refuses parameters of the sample-adaptive coder.
+/// Refuses unlawful parameters of the sample-adaptive coder.
 fn check_sample(
     params: &Params,
     umax: u32,
@@ -204,7 +204,7 @@ fn check_sample(
     check_count(params, start)
 }
 
-/// Refuses parameters of the block-adaptive coder.
+/// Refuses unlawful parameters of the block-adaptive coder.
 fn check_block(params: &Params, size: u32, restricted: bool, reference: u32) -> Result<(), Fault>
     ensures { result ≡ coder_fault params.now (Block size restricted reference) }
 {
@@ -243,7 +243,7 @@ fn check_constants(most: u32, constants: &[u8]) -> Result<(), Fault>
     Ok(())
 }
 
-/// Refuses a size that isn't one of a block's.
+/// Refuses a block size that isn't 8, 16, 32 or 64.
 fn check_block_size(size: u32) -> Result<(), Fault>
     ensures { result ≡ block_size_fault size }
 {

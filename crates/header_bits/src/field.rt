@@ -12,7 +12,7 @@ pub struct Range {
 /// A number.
 #[derive(Clone, Copy)]
 pub struct NumberField {
-    /// Its name in `inspect`.
+    /// Its name as an option of `compress`, or in `inspect`.
     pub name: &'static str,
     pub range: Range,
     pub(crate) slot: Slot,
@@ -23,7 +23,7 @@ pub struct NumberField {
 /// One bit.
 #[derive(Clone, Copy)]
 pub struct FlagField {
-    /// Its name in `inspect`.
+    /// Its name as an option of `compress`, or in `inspect`.
     pub name: &'static str,
     /// The name of 0.
     pub zero: &'static str,
@@ -69,7 +69,7 @@ macro_rules! number {
 
 pub(crate) use number;
 
-/// A number that is written as it is, in so many bits: its name, and its least and greatest value.
+/// A number that is written as it is, or as a code that its comment names, in so many bits: its name, and its least and greatest value.
 macro_rules! plain {
     ($before:ident, $bits:literal, $name:literal, $least:expr, $most:expr) => {
         number!($before, $name, Slot::Plain($bits, 0), $least, $most)

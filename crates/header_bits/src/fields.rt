@@ -142,10 +142,10 @@ macro_rules! predictor_row {
 
 pub(crate) use predictor_row;
 
-/// The weight update scaling exponent whose code is 0.
+/// The least value of a weight update scaling exponent, whose code is 0.
 pub const LEAST_EXPONENT: i32 = -6;
 
-/// The greatest weight update scaling exponent.
+/// The greatest value of a weight update scaling exponent: 9.
 pub const GREATEST_EXPONENT: i32 = LEAST_EXPONENT + VMAX.range.most as i32;
 
 // ---- the sample-adaptive coder's part
@@ -153,13 +153,13 @@ pub const GREATEST_EXPONENT: i32 = LEAST_EXPONENT + VMAX.range.most as i32;
 /// The unary length limit.
 pub const UMAX: NumberField = modulo!(first, 5, "umax", 8);
 
-/// The rescaling counter size.
+/// γ*, the rescaling counter size.
 pub const GAMMA_STAR: NumberField = counted!(UMAX, 3, "gamma-star", 4, 9);
 
-/// The first exponent of the counter.
+/// γ₀, the initial count exponent.
 pub const GAMMA_ZERO: NumberField = modulo!(GAMMA_STAR, 3, "gamma-zero", 1);
 
-/// K, the accumulator's constant; it is also at most D - 2.
+/// K, the accumulator initialization constant; it is also at most D - 2.
 pub const CONSTANT: NumberField = plain!(GAMMA_ZERO, 4, "k", 0, DYNAMIC_RANGE.range.most - 2);
 
 /// Whether the file has an accumulator table.
@@ -183,7 +183,7 @@ pub(crate) use sample_row;
 
 pub(crate) const BEFORE_BLOCK_SIZE: ReservedField = reserved!(first, 1);
 
-/// J, the samples in a block, written as a code.
+/// J, the samples in a block, written as a code of 0 to 3; the range has the least and the greatest, and `BLOCK_SIZES` the lawful ones.
 pub const BLOCK_SIZE: NumberField = plain!(
     BEFORE_BLOCK_SIZE,
     2,
@@ -249,8 +249,7 @@ pub(crate) fn coder_bits() -> u64
     total_bits(&sample_row!())
 }
 
-/// Refuses the first bit of a reserved field that is one. The field comes after those before it in its part,
-/// whose first bit is at `first`.
+/// Refuses a reserved field that isn't zero, and names its first bit that is one. Its part begins at position `first`.
 pub(crate) fn check_reserved_field(
     first: u64,
     slots: &[Slot],

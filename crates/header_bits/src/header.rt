@@ -37,9 +37,10 @@ pub fn write_header(alloc: Global, params: &Params) -> Result<Vec<u8>, Fault>
     Ok(writer.into_bytes())
 }
 
-/// Appends the header of lawful parameters to the bits of a writer: 152 bits, then its tables, in whole bytes.
+/// Appends the header of lawful parameters to the bits of a writer: 152 bits and its tables, each in its place, in whole bytes.
 ///
-/// It succeeds within the writer's room. After `WantOfMemory` the bits are as before.
+/// It succeeds within the writer's room. Returns `WantOfMemory` if an allocation fails, or if there would be more than 2^63 bits;
+/// the bits are then as before, and the room is no smaller.
 pub fn put_header(params: &Params, writer: &mut BitWriter) -> Result<(), Fault>
     requires { IsLawful params.now }
     ensures appended { OnOk result (writer.new.bits ≡ writer.old.bits ++ header_of params.now) }
@@ -72,8 +73,8 @@ fn header_bits(params: &Params) -> u64
 
 /// Reads a header from the front of at most 2^60 bytes, and returns its parameters and its length in bytes.
 ///
-/// Returns the first refusal in the order of the fields: `ShortHeader` if the bytes end inside a part or a
-/// table, `Reserved` with the bit's position, `FieldRange`, `Disagree` and `TableElsewhere`
+/// Returns the first refusal, part after part, where a table is a part of its own: `ShortHeader` if the bytes don't hold the whole
+/// part; else, in the order of its fields, `Reserved` with the bit's position, `FieldRange`, `Disagree` or `TableElsewhere`
 /// (CCSDS 123.0-B-1, "Header"). Only where there is none of these does it allocate, for the tables; it returns `WantOfMemory` if
 /// they can't be allocated.
 pub fn read_header(alloc: Global, bytes: &[u8]) -> Result<(Params, usize), Fault>
@@ -86,8 +87,8 @@ pub fn read_header(alloc: Global, bytes: &[u8]) -> Result<(Params, usize), Fault
 {
     let mut reader = BitReader::new(bytes);
     let params = take_header(alloc, &mut reader)?;
-    let behind = (reader.left() / 8) as usize;
-    Ok((params, bytes.len() - behind))
+    let rest = (reader.left() / 8) as usize;
+    Ok((params, bytes.len() - rest))
 }
 
 /// Takes a header off the bits that a reader has left, and returns its parameters.
@@ -118,7 +119,7 @@ struct Parts<'a> {
     constants: BitReader<'a>,
 }
 
-/// Checks a whole header without allocating. Returns the first refusal in the order of the fields.
+/// Checks a whole header without allocating. Returns the first refusal, part after part.
 fn look_through<'a>(reader: &mut BitReader<'a>) -> Result<Parts<'a>, Fault>
     ensures reads { Reads (λ x. header_contents x.image x.predictor x.weights.left x.coder x.constants.left) result reader.new.left (parts_at reader.old.left) }
     ensures there { IfOk result (λ x. AreThere x.image x.predictor x.weights.left x.coder x.constants.left) }

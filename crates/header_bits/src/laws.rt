@@ -2,7 +2,7 @@
 
 ghost use Rattle.header_bits.specs.Laws.{OneHeader, HeaderIsExact, HeaderIsLawful, ChosenIsSpelt, FaultIsNoHeader};
 
-/// No header of some parameters is a prefix of a header of others.
+/// Bits begin with at most one header, and it is a header of one set of parameters alone.
 pub fn one_header()
     ensures { OneHeader }
 {}

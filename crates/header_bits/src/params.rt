@@ -44,7 +44,8 @@ pub struct Params {
 
 impl Params {
     /// Returns the plainest parameters of an image: band-sequential order, reduced mode with column-oriented
-    /// local sums, no previous band, default weights, and the sample-adaptive coder of `Coder::plain`. Other
+    /// local sums, no previous band, default weights, and the sample-adaptive coder of `Coder::plain`; user-defined
+    /// data of 0, output words of one byte, R = 32, Ω = 13, t_inc = 2^6, v_min = -1 and v_max = 3. Other
     /// parameters can be made from them by naming the fields that differ.
     ///
     /// They are lawful for samples of five bits or more.
@@ -91,7 +92,7 @@ impl Coder {
 pub enum WeightStart {
     /// The default weights of the standard.
     Usual,
-    /// Custom weights, each given by a signed number of `q` bits.
+    /// Custom weights, each given by a signed number of `q` bits, 3 to Ω + 3.
     Table { q: u32, values: WeightTable },
 }
 
@@ -102,9 +103,9 @@ pub enum Coder {
     Sample {
         /// The unary length limit: 8 to 32.
         umax: u32,
-        /// The rescaling counter size: 4 to 9.
+        /// γ*, the rescaling counter size: 4 to 9.
         gamma_star: u32,
-        /// The first exponent of the counter: 1 to 8.
+        /// γ₀, the initial count exponent: 1 to 8, and less than γ*.
         gamma_zero: u32,
         start: CountStart,
     },
@@ -119,7 +120,7 @@ pub enum Coder {
     },
 }
 
-/// The accumulator's constant K: one for all bands, or one for each.
+/// K, the accumulator initialization constant, 0 to D - 2: one for all bands, or one for each.
 #[derive(Drop)]
 pub enum CountStart {
     Constant(u32),

@@ -116,7 +116,7 @@ fn exponent_code(exponent: i32) -> u32
     (exponent - LEAST_EXPONENT) as u32
 }
 
-/// Refuses the first bit of a reserved field that is one.
+/// Refuses a reserved field that isn't zero, and names its first bit that is one.
 fn check_reserved_at(index: usize, numbers: &[u32; PREDICTOR_FIELDS]) -> Result<(), Fault>
     requires { index < 15 }
     ensures { result ≡ reserved_test (96 + total (take index predictor_fields)) (width (slice_index_or predictor_fields index (slot.Reserved 0)))

@@ -14,7 +14,7 @@ pub(crate) fn refuse_if(condition: bool, fault: Fault) -> Result<(), Fault>
     if condition { Err(fault) } else { Ok(()) }
 }
 
-/// Returns `Disagree` if two parameters break a rule.
+/// Returns `Disagree` with a rule if a condition holds.
 pub(crate) fn disagree_if(condition: bool, rule: Rule) -> Result<(), Fault>
     ensures { result ≡ refuse_if condition (Disagree rule) }
 {

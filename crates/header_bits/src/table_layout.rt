@@ -40,8 +40,8 @@ pub(crate) fn fill_of(bits: u64) -> u32
     ((8 - bits % 8) % 8) as u32
 }
 
-/// Takes the zeros after the numbers of a table, and refuses the first of them that is one; `at` is the
-/// position of the first of them.
+/// Takes the fill bits after the numbers of a table, and refuses the first of them that is one; `at` is the position of the
+/// first fill bit.
 pub(crate) fn pass_fill(at: u64, fill: u32, reader: &mut BitReader) -> Result<(), Fault>
     requires early { at < 2 ^ 32 }
     requires few { fill < 8 }

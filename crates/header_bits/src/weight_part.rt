@@ -47,7 +47,7 @@ fn count_for(image: &ImagePart, predictor: &PredictorPart) -> usize
     weight_count(predictor.previous, predictor.reduced, bands)
 }
 
-/// Returns the position of the first bit after the weight table, if there is one.
+/// Returns the position of the coder part: after the weight table, or after the predictor part if there is no table.
 pub(crate) fn end(image: &ImagePart, predictor: &PredictorPart) -> u64
     requires previous { predictor.now.previous ≤ 15 }
     requires resolution { predictor.now.resolution ≤ 22 }

@@ -18,14 +18,14 @@ before_run all front last run later e parts =
     (here, parted ∙ ap (λ ns. ns ++ later) (sym here))
 
 -- of the numbers from one place up to another, the first are copied to the front of a run
-pub first_of_room : (numbers copied behind : List ℕ) (first end count : ℕ) → count ≤ end - first → length copied ≡ count
+pub first_of_room : (numbers copied rest : List ℕ) (first end count : ℕ) → count ≤ end - first → length copied ≡ count
     → copied ≡ take count (drop first numbers)
-    → take (end - first) (drop first numbers) ≡ take count (copied ++ behind) ++ take (end - (first + count)) (drop (first + count) numbers)
-first_of_room numbers copied behind first end count within long same =
+    → take (end - first) (drop first numbers) ≡ take count (copied ++ rest) ++ take (end - (first + count)) (drop (first + count) numbers)
+first_of_room numbers copied rest first end count within long same =
     let left : end - (first + count) ≡ end - first - count = omega arith in
     let parts : end - first ≡ count + (end - first - count) = omega (arith, within) in
-    let front : take count (copied ++ behind) ≡ copied = ap (λ n. take n (copied ++ behind)) (sym long) ∙ take-append_seam copied behind in
+    let front : take count (copied ++ rest) ≡ copied = ap (λ n. take n (copied ++ rest)) (sym long) ∙ take-append_seam copied rest in
     ap (λ n. take n (drop first numbers)) parts ∙ take-add count (end - first - count) (drop first numbers)
     ∙ ap (λ ns. take count (drop first numbers) ++ take (end - first - count) ns) (drop-drop count first numbers)
     ∙ ap (λ ns. ns ++ take (end - first - count) (drop (first + count) numbers)) (sym same ∙ sym front)
-    ∙ ap (λ n. take count (copied ++ behind) ++ take n (drop (first + count) numbers)) (sym left)
+    ∙ ap (λ n. take count (copied ++ rest) ++ take n (drop (first + count) numbers)) (sym left)

@@ -8,7 +8,8 @@ pub trait Gate {
     ghost may_stop: { Self → ℕ → ℕ → Bool };
 
     /// Called before each try to send a number: the `nth` of a predictor, counted from 0, whose earlier tries
-    /// failed `turn` times. False stops the predictor there, and is returned only at a pair of the set.
+    /// failed `turn` times. It may be called more than once for one try, and `turn` stays at `u64::MAX`. False stops the
+    /// predictor there, and is returned only at a pair of the set.
     fn pass(&self, predictor: u32, nth: u64, turn: u64) -> bool
         ensures { IsFalse result → IsTrue (may_stop self.now predictor nth) };
 }

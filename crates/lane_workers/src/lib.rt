@@ -1,4 +1,4 @@
-//! Workers that send numbers along lanes, each in a thread of its own, and what the thread that takes them knows of them.
+//! Workers that send numbers along lanes, each in a thread of its own, and what the thread that takes their numbers knows of them.
 #![tactic(auto)]
 
 pub mod feed;

@@ -22,7 +22,8 @@ pub struct Ready<F> {
 }
 
 impl<F: Drop> Ready<F> {
-    /// Gives a feed a lane of `slots` slots. Returns `WantOfMemory` if the lane can't be allocated.
+    /// Gives a feed a lane of `slots` slots, 1 to 65,536. Returns `WantOfMemory` if the lane can't be allocated; the feed is then
+    /// dropped.
     pub fn new(alloc: Global, slots: u32, feed: F) -> Result<Ready<F>, Fault>
         requires { InRange 1 65536 slots }
         ensures feed { IfOk result (λ r. r.feed ≡ feed) }

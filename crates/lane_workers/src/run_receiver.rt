@@ -64,7 +64,7 @@ impl RunReceiver {
         }
     }
 
-    /// Writes the next numbers to the front of a run, in order, and returns how many: 0 if it sees none.
+    /// Writes the next numbers to the front of a run that isn't empty, in order, and returns how many: 0 if it sees none.
     pub fn next_run(&mut self, run: &mut [u16]) -> usize
         requires { 0 < length run.old }
         ensures lane { self.new.lane ≡ self.old.lane }
@@ -81,8 +81,7 @@ impl RunReceiver {
         self.room.next_run(run)
     }
 
-    /// Returns the next number that was already received, or `None` if all of them were passed on. It doesn't
-    /// look at the lane.
+    /// Passes on the next number that waits in the room, or returns `None` if none waits. It doesn't look at the lane.
     #[inline(always)]
     pub fn next_received(&mut self) -> Option<u16>
         ensures lane { self.new.lane ≡ self.old.lane }
@@ -92,7 +91,7 @@ impl RunReceiver {
         self.room.next()
     }
 
-    /// Receives what it sees, up to a room, in place of what waits in it, and drops the latter.
+    /// Drops what waits in the room, and fills it with what it sees in the lane, up to 64 numbers.
     pub fn skip(&mut self)
         ensures lane { self.new.lane ≡ self.old.lane }
     {
@@ -114,8 +113,8 @@ impl RunReceiver {
 }
 
 impl SettledRuns {
-    /// Writes the first numbers of the rest to the front of a run, in order, and returns how many: 0 exactly if
-    /// the rest is empty.
+    /// Writes the first numbers of the rest to the front of a run that isn't empty, in order, and returns how many: 0 exactly
+    /// if the rest is empty.
     pub fn take_run(&mut self, run: &mut [u16]) -> usize
         requires { 0 < length run.old }
         ensures kept { self.new.sent ≡ self.old.sent }

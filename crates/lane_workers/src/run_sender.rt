@@ -12,7 +12,7 @@ use std::marker::Model;
 use std::sync::Wait;
 use std::thread;
 
-/// A sender of runs: of eight numbers, or as many as the lane has slots.
+/// A sender of runs: of eight numbers, or of as many as the lane has slots if these are fewer.
 ///
 /// Before a run is tried, the gate is asked for each of its numbers. Where the gate passes all of them and the
 /// lane has no room for the run, the try of each has failed once, and the first is then sent alone. Where the
@@ -52,7 +52,7 @@ impl<'g, G: Gate> Model for RunSender<'g, G> {
 }
 
 impl<'g, G: Gate> RunSender<'g, G> {
-    /// Returns a sender of a predictor's numbers, past a gate.
+    /// Returns a sender that sends a predictor's numbers past a gate.
     pub fn new(predictor: u32, sender: LaneSender, gate: &'g G) -> RunSender<'g, G>
         ensures { result ≡ record { lane = sender.lane; predictor = predictor; gate = gate.now; taken = sender.sent; ready = true; stopped = false } }
     {
@@ -67,8 +67,8 @@ impl<'g, G: Gate> RunSender<'g, G> {
         }
     }
 
-    /// Takes a number, and sends it with those before it once they make a run. Returns false if the gate has
-    /// stopped the sender.
+    /// Takes a number, and sends it with those before it once they make a run; it waits while the lane is full. Returns false if
+    /// the gate has stopped the sender, which then hasn't sent all that it took. The gate hasn't stopped it before.
     pub fn send<R: Wait>(&mut self, rt: &R, number: u16) -> bool
         requires ready { IsTrue self.old.ready }
         requires few { length self.old.taken < 2 ^ 64 - 1 }
@@ -81,8 +81,9 @@ impl<'g, G: Gate> RunSender<'g, G> {
         self.goes_on()
     }
 
-    /// Takes the first of some numbers, as many as a run lacks, and sends the run once it is whole. Returns how
-    /// many it took, at least one. The gate may have stopped the sender then.
+    /// Takes the first of some numbers, as many as a run lacks, and sends the run once it is whole; it waits while the lane is
+    /// full. Returns how many it took, at least one. The gate may have stopped the sender then, but not before. There is at
+    /// least one number.
     #[inline(always)]
     pub fn send_some<R: Wait>(&mut self, rt: &R, numbers: &[u16]) -> usize
         requires ready { IsTrue self.old.ready }
@@ -159,8 +160,8 @@ fn send_all<R: Wait, G: Gate>(
     true
 }
 
-/// Sends the waiting numbers as one run, or else the first of them alone. Returns false if the gate has stopped
-/// the first that still waits.
+/// Sends the waiting numbers as one run, or the first of them alone if the lane has no room for the run. If the gate refuses one
+/// of them, it sends those before it singly. Returns false if the gate has stopped the first that still waits.
 fn send_run<R: Wait, G: Gate>(
     rt: &R,
     predictor: u32,

@@ -35,7 +35,8 @@ impl<F: Feed, G: Gate> Model for Stage<F, G> {
 }
 
 impl<F: Feed, G: Gate> Stage<F, G> {
-    /// Starts a worker in a scope. `over` is set once the worker sends no more; only waiting depends on it.
+    /// Starts a worker in a scope. `over` is this worker's own flag, not yet set; it is set once the worker sends no more, and
+    /// `next_run` and `next_one` take it again. Only waiting depends on it.
     ///
     /// Returns `SpawnRefused` if the thread wasn't started.
     pub fn start<'s, E, R: Wait + Sync + 's>(
@@ -57,9 +58,9 @@ impl<F: Feed, G: Gate> Stage<F, G> {
         })
     }
 
-    /// Waits for the next numbers, and writes them to the front of a run, in order: at least one, and as many
-    /// as it sees, or as the run holds. Returns how many: 0 once the worker has ended, all that it sent was
-    /// passed on, and it was joined.
+    /// Waits for the next numbers, and writes them to the front of a run that isn't empty, in order: at least one, and at most
+    /// as many as the run holds. Returns how many: 0 once the worker has ended, all that it sent was passed on, and it was
+    /// joined.
     pub fn next_run<R: Threads + Wait>(
         &mut self,
         rt: &R,
@@ -86,7 +87,8 @@ impl<F: Feed, G: Gate> Stage<F, G> {
         self.state.next_one(rt, over)
     }
 
-    /// Receives what it sees, and drops it: for a worker that would otherwise find no free slot.
+    /// Drops the numbers that wait to be passed on, and receives up to 64 that it sees in their place, so that the worker finds
+    /// free slots. It does nothing once the worker is joined. What then counts as passed on isn't stated.
     pub fn skip(&mut self)
         ensures { (self.new.feed ≡ self.old.feed) × (self.new.gate ≡ self.old.gate) }
     {
@@ -103,7 +105,8 @@ impl<F: Feed, G: Gate> Stage<F, G> {
         self.state.stopped_at()
     }
 
-    /// Joins the worker, and returns how many numbers it sent if it was stopped.
+    /// Joins the worker, and returns how many numbers it sent if it was stopped, else `None`. It frees no slots: a worker that may
+    /// lack one needs `skip` until its flag is set.
     pub fn stop<R: Threads>(self, rt: &R) -> Option<u64>
         ensures { IfSome result (λ sent. IsTrue (G.may_stop self.gate (F.predictor self.feed) sent) × (sent < length (F.items self.feed))) }
     {

@@ -34,9 +34,9 @@ impl<F: Feed, G: Gate> State<F, G> {
         }
     }
 
-    /// Waits for the next numbers, and writes them to the front of a run, in order: at least one, and as many
-    /// as it sees, or as the run holds. Returns how many: 0 once the worker has ended, all that it sent was
-    /// passed on, and it was joined.
+    /// Waits for the next numbers, and writes them to the front of a run that isn't empty, in order: at least one, and at most
+    /// as many as the run holds. Returns how many: 0 once the worker has ended, all that it sent was passed on, and it was
+    /// joined.
     pub(crate) fn next_run<R: Threads + Wait>(
         &mut self,
         rt: &R,
@@ -65,8 +65,8 @@ impl<F: Feed, G: Gate> State<F, G> {
         unreachable!()
     }
 
-    /// Returns the next number that was already received from a running worker, or `None` if all of them were
-    /// passed on.
+    /// Passes on the next number that waits in the room of a running worker, or returns `None` if none waits or the worker was
+    /// joined.
     #[inline(always)]
     fn next_received(&mut self) -> Option<u16>
         ensures same { ((standing_of self.new).feed ≡ (standing_of self.old).feed) × ((standing_of self.new).gate ≡ (standing_of self.old).gate) }
@@ -97,7 +97,7 @@ impl<F: Feed, G: Gate> State<F, G> {
         Some(run[0])
     }
 
-    /// Receives what it sees, and drops it.
+    /// Drops the numbers that wait to be passed on by a running worker, and receives up to 64 that it sees in their place.
     pub(crate) fn skip(&mut self)
         ensures { ((standing_of self.new).feed ≡ (standing_of self.old).feed) × ((standing_of self.new).gate ≡ (standing_of self.old).gate) }
     {

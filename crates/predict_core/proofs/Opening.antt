@@ -90,8 +90,8 @@ module _ (p : Predictor) (c d : Image) (z y x : ℕ) (column : x < c.shape.colum
   pub open_sum_same : open_sum p c z y x ≡ open_sum p d z y x
   unfolding open_sum
   open_sum_same =
-      let w = wide in let here = offset_same x column in let before = offset_same (x - 1) (omega (arith, column)) in let behind = offset_same (x + 1) in
-      grind (arith, nat_tests, here, before, behind, columns, w)
+      let w = wide in let here = offset_same x column in let before = offset_same (x - 1) (omega (arith, column)) in let rest = offset_same (x + 1) in
+      grind (arith, nat_tests, here, before, rest, columns, w)
 
   pub open_directions_same : open_directions p c z y x ≡ open_directions p d z y x
   unfolding open_directions

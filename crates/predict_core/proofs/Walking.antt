@@ -94,7 +94,7 @@ gone_count p left = sample_count p.shape - length left
 abbrev pub gone_by : Params → List Place → List Place
 gone_by p left = take (gone_count p left) (places p.shape p.order)
 
--- the places left are the last of the order, and each band follows the image, after its own of the others
+-- the places left are the last of the order, and each band has followed the image over those of its places that have gone by
 pub record IsOnWalk (p : Params) (c : Image) (left : List Place) (bands : List Learner) : Type 0 where
   pub rest : left ≡ drop (gone_count p left) (places p.shape p.order)
   pub many : length bands ≡ p.shape.bands

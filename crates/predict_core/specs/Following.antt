@@ -9,7 +9,7 @@ use Rattle.sample_prediction.specs.Predictor.{predictor_of}
 use Rattle.sample_prediction.specs.Prediction.{weight_vector}
 use Rattle.sample_prediction.specs.Residual.{run_residuals}
 
--- what a band's predictor knows: its parameters, the raster index of the place that comes next, the weights there, and the residuals of the piece after it
+-- what a band's predictor knows: its parameters, the raster index of the place that comes next, the weights there, and the residuals of the piece before it
 pub record Learner : Type 0 where
   pub predictor : Predictor
   pub shape : Sizes

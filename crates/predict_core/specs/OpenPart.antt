@@ -34,7 +34,7 @@ pub record IsOpenPart (p : Predictor) (c : Image) (z y x count : ℕ) (sum : ℤ
   pub lower : drop (if p.reduced then 0 else 3) components
       ≡ spectral_differences p c z y x (previous_bands p z) ++ replicate (4 * quads_of count - count) (pos 0)
 
--- all ones, or 0 where something doesn't hold
+-- 0 where something holds, and else all ones
 abbrev pub unless : Bool → ℤ
 unless b = if b then pos 0 else negsuc 0
 

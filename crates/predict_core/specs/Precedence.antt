@@ -15,7 +15,7 @@ pub record AreAlike (c d : Image) : Type 0 where
   pub shape : c.shape ≡ d.shape
   pub kind : c.kind ≡ d.kind
 
--- place t' of band z' is at or below place t of band z, and is not it
+-- place t' of band z' is in band z or below it and at t or before it, and is not place t of band z
 abbrev pub IsEarlier : ℕ → ℕ → ℕ → ℕ → Type 0
 IsEarlier z t z' t' = ((z' < z) × (t' ≤ t)) ⊎ ((z' ≡ z) × (t' < t))
 

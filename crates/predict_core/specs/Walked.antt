@@ -7,7 +7,7 @@ use Rattle.header_bits.specs.declared.params.Params.{Params}
 use Rattle.predict_core.specs.Following.{Learner, Follows}
 use Rattle.sample_prediction.specs.Residual.{mapped_residual}
 
--- band z of a predictor follows the cube to where the walk has come
+-- the predictor of band z follows the cube as far as the walk has come
 pub record IsAlong (p : Params) (c : Image) (i z : ℕ) (b : Learner) : Type 0 where
   pub band : b.band ≡ z
   pub inside : b.t ≤ p.shape.rows * p.shape.columns

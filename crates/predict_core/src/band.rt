@@ -60,7 +60,7 @@ impl Model for Band {
 impl Band {
     /// Returns the predictor of band `z`, at its first place.
     ///
-    /// `z` is below the number of bands. The weights are stored in the band itself, so that nothing is
+    /// The parameters are lawful, and `z` is below the number of bands. The weights are stored in the band itself, so that nothing is
     /// allocated and nothing refused.
     pub fn new(_alloc: Global, params: &Params, z: u32) -> Result<Band, Fault>
         requires lawful { IsLawful params.now }
@@ -127,7 +127,7 @@ impl Band {
     ///
     /// The cube has the shape and kind of the parameters, and the next place is row `y`, column `x`. `delta` is
     /// at most 2^D - 1. The cube's samples at this place and later ones are not read, and the cube isn't
-    /// written.
+    /// written: the caller writes the sample into it before the next call that reads this band.
     #[inline(never)]
     pub fn inverse(&mut self, cube: &Cube, y: u32, x: u32, delta: u16) -> i32
         requires shape { cube.now.shape ≡ self.old.shape }

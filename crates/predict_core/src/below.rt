@@ -14,8 +14,8 @@ use crate::room::Quad;
 use crate::settings::Settings;
 use cube_core::cube::Cube;
 
-/// Writes the quads after the first `first` ones: the central differences of the bands below, from the `nearest`
-/// of them on.
+/// Writes the quads after the first `first` ones: the central differences of the bands below, from the one that is `nearest`
+/// bands below on.
 pub(crate) fn fill_spectral<const Q: usize>(
     settings: &Settings,
     cube: &Cube,
@@ -43,7 +43,7 @@ pub(crate) fn fill_spectral<const Q: usize>(
     }
 }
 
-/// Writes the central differences of four bands below, from the `nearest` of them on.
+/// Writes the central differences of four bands, from the one that is `nearest` bands below on.
 fn fill_lower(
     settings: &Settings,
     cube: &Cube,
@@ -100,7 +100,7 @@ fn fill_next_four(
     fill_four(column, &first, &second, &third, &fourth, &mut quad.places);
 }
 
-/// Does the same where at most two of them are used, so that the loop is shorter.
+/// Does the same where at most two of them are used, with less work for each place.
 fn fill_last_two(
     settings: &Settings,
     cube: &Cube,

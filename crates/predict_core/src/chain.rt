@@ -36,7 +36,7 @@ pub(crate) struct Steps {
     pub ghost most: { exponent ≤ℤ pos 21 },
 }
 
-/// Returns the first `N` weights after a place where the predicted difference is `predicted`.
+/// Updates the first `N` weights after a place where the predicted difference is `predicted`.
 ///
 /// `own` is the central difference there (CCSDS 123.0-B-1, "Weight Update").
 #[inline(always)]
@@ -120,11 +120,10 @@ fn four_of(components: &[i32; 4]) -> [i32; 4]
     *components
 }
 
-/// Returns the predicted central difference at row `y`, column `x` of a cube, and the weights at the next
-/// place.
+/// Returns the predicted central difference at row `y`, column `x` of a cube, and updates the weights.
 ///
-/// The scaled prediction follows from the difference and the local sum alone, which is that of the offsets and
-/// `sum`. The place is not the first of its band.
+/// `sum` is the local sum of the offsets there. The scaled prediction follows from the difference and the local sum alone. The
+/// place is not the first of its band.
 #[inline(always)]
 fn follow_at<const N: usize, const WRAPS: bool>(
     settings: &Settings,

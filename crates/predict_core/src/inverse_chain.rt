@@ -38,8 +38,8 @@ use sample_prediction::range::Range;
 use sample_prediction::residual::{prediction_of, unmap_by_center};
 use sample_prediction::weights::{Form, update_by};
 
-/// A run below the first row whose samples aren't known yet: its first place, the local sums and components of its
-/// places as far as the samples before tell them, the weights there, and its mapped residuals.
+/// A run below the first row whose samples aren't known yet: its first place, the local sums and components of its places as if
+/// each offset to the west were 0, the weights at its first place, and its mapped residuals.
 #[derive(Clone, Copy)]
 pub(crate) struct OpenRun<'a, const Q: usize> {
     pub settings: &'a Settings,
@@ -51,9 +51,9 @@ pub(crate) struct OpenRun<'a, const Q: usize> {
     pub deltas: &'a [u16],
 }
 
-/// Writes the samples of a run, one after another, and returns the weights after it.
+/// Writes the samples of a run, one after another, and returns the cube and the weights after it.
 ///
-/// The cube is passed by value, so that what it points to stays in registers while samples are written.
+/// The cube is passed by value, so that its sizes and its pointer stay in registers while samples are written.
 #[inline(always)]
 pub(crate) fn invert_places<const Q: usize, const N: usize, const WRAPS: bool>(
     mut cube: Cube,

@@ -43,7 +43,7 @@ pub(crate) fn predict_run<const PAIR: bool>(
     }
 }
 
-/// Does the same in a register in which nothing wraps, or in any.
+/// Does the same. `WRAPS` may be false only where nothing wraps in the register.
 ///
 /// The number of weights is found once, so that the compiler knows it in the loops over places.
 fn predict_in<const WRAPS: bool, const PAIR: bool>(

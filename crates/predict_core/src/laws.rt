@@ -10,7 +10,7 @@ pub fn one_sample()
     ensures { OneSample }
 {}
 
-/// Every sample that a local sum, a difference, a weight or a prediction reads comes before its place.
+/// Every sample that the local sum, the difference vector, the weights or the prediction of a place reads comes before that place.
 ///
 /// It holds in every encoding order: band sequential, and interleaved with each depth.
 pub fn places_precede()

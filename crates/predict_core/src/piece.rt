@@ -29,7 +29,8 @@ impl Band {
     ///
     /// `count` is at most 64. Both bands have the same parameters, and for each this does what `predict_piece` does.
     /// No place of one band waits for a place of the other, so the processor works on both at once, in less time than
-    /// on one after the other (CCSDS 123.0-B-1, "Predictor").
+    /// on one after the other (CCSDS 123.0-B-1, "Predictor"). Short pieces, and bands with different numbers of weights,
+    /// are gone over one after the other.
     pub fn predict_pieces(&mut self, other: &mut Band, cube: &Cube, y: u32, x: u32, count: usize)
         requires next { IsPieceNext self.old cube.now y x count }
         requires other_next { IsPieceNext other.old cube.now y x count }
@@ -54,7 +55,7 @@ impl Band {
         other.piece = beside.residuals;
     }
 
-    /// Returns the mapped residual of place `i`, counted from 0, of the last piece.
+    /// Returns the mapped residual of place `i`, 0 to 63, of the last piece. From the length of the piece on it is unspecified.
     #[inline]
     pub fn piece_residual(&self, i: usize) -> u16
         requires { i < 64 }
@@ -63,7 +64,8 @@ impl Band {
         self.piece[i]
     }
 
-    /// The mapped residuals of the first `count` places of the last piece.
+    /// Returns the mapped residuals of the first `count` places of the last piece, at most 64. From the length of the piece on
+    /// they are unspecified.
     #[inline]
     pub fn piece_residuals(&self, count: usize) -> &[u16]
         requires { count ≤ 64 }

@@ -58,7 +58,7 @@ impl Band {
     }
 
     /// Does the same, one place after another.
-    // Apart from the way by rows it leaves that one its registers.
+    // Kept out of `inverse_run`, it leaves the registers to `invert_run`.
     #[inline(never)]
     fn inverse_each(&mut self, cube: &mut Cube, y: u32, x: u32, deltas: &[u16])
         requires shape { cube.old.shape ≡ self.old.shape }
@@ -103,8 +103,8 @@ impl Band {
     }
 }
 
-/// Writes the samples of a run below the first row, in a register in which nothing wraps or in any, and updates
-/// the weights.
+/// Writes the samples of a run below the first row, and updates the weights. `WRAPS` may be false only where nothing wraps in the
+/// register.
 ///
 /// The number of weights is found once, so that the compiler knows it in the loop over places.
 fn invert_run<const WRAPS: bool>(

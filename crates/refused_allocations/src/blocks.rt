@@ -6,6 +6,7 @@ ghost use Rattle.block_adaptive.specs.Settings.{AreForBlocks};
 ghost use Rattle.block_adaptive.specs.Taken.{taken_count};
 ghost use Rattle.block_adaptive.specs.DataSets.{capacity};
 
+use crate::files::line_of;
 use crate::repeats::{Again, numbers};
 use block_adaptive::block_writer::BlockWriter;
 use cube_core::fault::Fault;
@@ -23,10 +24,7 @@ pub fn line(alloc: Global, again: &mut Again) -> Result<String, Fault> {
     let params = params(Shape::new(1, COUNT, 1)?, Kind::new(false, 12)?);
     let numbers = numbers(alloc, COUNT)?;
     let body = body(alloc, &params, &numbers, again)?;
-    let length = body.len();
-    let sum = crate::files::sum_of(&body);
-    let line = format!(in alloc; "blocks: {length} bytes, {sum:016x}\n")?;
-    Ok(line)
+    line_of(alloc, "blocks", &body)
 }
 
 /// Returns parameters with blocks of 8.

@@ -247,8 +247,16 @@ pub fn whole_bytes(
     Ok(writer.into_bytes())
 }
 
+/// Returns a line with a name, how many bytes there are, and their checksum.
+pub fn line_of(alloc: Global, name: &str, bytes: &[u8]) -> Result<String, Fault> {
+    let length = bytes.len();
+    let sum = sum_of(bytes);
+    let line = format!(in alloc; "{name}: {length} bytes, {sum:016x}\n")?;
+    Ok(line)
+}
+
 /// Returns a checksum of bytes.
-pub fn sum_of(bytes: &[u8]) -> u64 {
+fn sum_of(bytes: &[u8]) -> u64 {
     let mut sum = 0u64;
     for byte in bytes {
         sum = sum.rotate_left(5).wrapping_add(u64::from(*byte));

@@ -3,6 +3,7 @@
 ghost use Rattle.std.specs.Prelude.{◌≡◌, ◌^◌, ◌<◌, ◌≤◌, length, IfOk};
 ghost use Rattle.sample_adaptive.specs.Settings.{AreForSamples};
 
+use crate::files::line_of;
 use crate::repeats::{Again, numbers};
 use cube_core::fault::Fault;
 use cube_core::kind::Kind;
@@ -20,10 +21,7 @@ pub fn line(alloc: Global, again: &mut Again) -> Result<String, Fault> {
     let params = params(Shape::new(1, COUNT, 1)?, Kind::new(false, 12)?);
     let numbers = numbers(alloc, COUNT)?;
     let body = body(alloc, &params, &numbers, again)?;
-    let length = body.len();
-    let sum = crate::files::sum_of(&body);
-    let line = format!(in alloc; "samples: {length} bytes, {sum:016x}\n")?;
-    Ok(line)
+    line_of(alloc, "samples", &body)
 }
 
 /// Returns parameters of one band.

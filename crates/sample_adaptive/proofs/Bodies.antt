@@ -79,19 +79,19 @@ as_it_is (Ok x) = refl
 as_it_is (Err e) = refl
 
 -- numbers after others
-abbrev pub behind : List ℕ → List ℕ × List Bool → Result (List ℕ × List Bool) Fault
-behind xs read = Ok (xs ++ read.0, read.1)
+abbrev pub beyond : List ℕ → List ℕ × List Bool → Result (List ℕ × List Bool) Fault
+beyond xs read = Ok (xs ++ read.0, read.1)
 
 cons_then : (n : ℕ) (r : Result (List ℕ × List Bool) Fault) (f g : List ℕ × List Bool → Result (List ℕ × List Bool) Fault)
     → ((a : List ℕ × List Bool) → f a ≡ g (n ∷ a.0, a.1))
-    → ((r >>= λ a. f a >>= behind a.0) >>= behind (n ∷ [])) ≡ ((r >>= behind (n ∷ [])) >>= λ a. g a >>= behind a.0)
-cons_then n (Ok a) f g same = rw (same a) (then_then (g (n ∷ a.0, a.1)) (behind a.0) (behind (n ∷ [])))
+    → ((r >>= λ a. f a >>= beyond a.0) >>= beyond (n ∷ [])) ≡ ((r >>= beyond (n ∷ [])) >>= λ a. g a >>= beyond a.0)
+cons_then n (Ok a) f g same = rw (same a) (then_then (g (n ∷ a.0, a.1)) (beyond a.0) (beyond (n ∷ [])))
 cons_then n (Err e) f g same = refl
 
 -- numbers along places, and along others after them
 pub words_at_append : (count : ℕ) (c : CoderSettings) (gone : List Place) (before : List ℕ) (ps qs : List Place) (bits : List Bool)
     → words_at count c gone before (ps ++ qs) bits
-    ≡ (words_at count c gone before ps bits >>= λ a. words_at count c (gone ++ ps) (before ++ a.0) qs a.1 >>= behind a.0)
+    ≡ (words_at count c gone before ps bits >>= λ a. words_at count c (gone ++ ps) (before ++ a.0) qs a.1 >>= beyond a.0)
 unfolding words_at
 words_at_append count c gone before [] qs bits = rw (append-nil gone, append-nil before) (as_it_is (words_at count c gone before qs bits))
 words_at_append count c gone before (p ∷ ps) qs bits =
@@ -99,10 +99,10 @@ words_at_append count c gone before (p ∷ ps) qs bits =
     let few = λ (n : ℕ × List Bool). words_at count c (gone ++ p ∷ []) (before ++ n.0 ∷ []) ps n.1 in
     let rest = λ (a : List ℕ × List Bool). words_at count c (gone ++ (p ∷ ps)) (before ++ a.0) qs a.1 in
     bind_same first _ _ (λ n.
-    ap (λ read. read >>= behind (n.0 ∷ [])) (words_at_append count c (gone ++ p ∷ []) (before ++ n.0 ∷ []) ps qs n.1)
+    ap (λ read. read >>= beyond (n.0 ∷ [])) (words_at_append count c (gone ++ p ∷ []) (before ++ n.0 ∷ []) ps qs n.1)
     ∙ cons_then n.0 (few n) _ rest (λ a. ap₂ (λ (ps : List Place) (ns : List ℕ). words_at count c ps ns qs a.1)
     (append_assoc gone (p ∷ []) ps) (append_assoc before (n.0 ∷ []) a.0)))
-    ∙ sym (then_then first (λ n. few n >>= behind (n.0 ∷ [])) (λ a. rest a >>= behind a.0))
+    ∙ sym (then_then first (λ n. few n >>= beyond (n.0 ∷ [])) (λ a. rest a >>= beyond a.0))
 
 pub body_is_read : BodyIsRead
 unfolding sample_body sample_body_at

@@ -1,5 +1,5 @@
 -- Lawful parameters are lawful for the sample-adaptive coder.
-use Rattle.std.proofs.Common.{◌≡◌, ◌+◌, ◌-◌, ◌<◌, ◌≤◌, ℕ, refl, arith}
+use Rattle.std.proofs.Common.{◌≡◌, ◌+◌, ◌-◌, ◌<◌, ◌≤◌, ℕ, refl, sym, subst, arith}
 use Rattle.std.specs.List.{slice_index}
 use Rattle.header_bits.specs.declared.params.Params.{Params}
 use Rattle.header_bits.specs.declared.params.Coder.{Coder}
@@ -30,6 +30,16 @@ by_coder p (Block size restricted reference) b h s = absurd s
 
 pub for_samples : (p : Params) → IsLawful p → IsSample p.coder → AreForSamples p
 for_samples p h s = record { coder = s; lawful = by_coder p p.coder h.kind h.coder s }
+
+-- parameters with a coder of one constant, each number in its range, are for this coder
+pub with_constant : (p : Params) (umax gamma_star gamma_zero k : ℕ) → p.coder ≡ Sample umax gamma_star gamma_zero (Constant k) → InRange 2 16 p.kind.bits
+    → InRange 8 32 umax → InRange 4 9 gamma_star → InRange 1 8 gamma_zero → gamma_zero + 1 ≤ gamma_star → k + 2 ≤ p.kind.bits → AreForSamples p
+with_constant p umax gamma_star gamma_zero k is bits limit size first order small =
+    record {
+      coder = subst IsSample (sym is) tt;
+      lawful = subst (λ (coder : Coder). AreLawful p.shape.bands (coder_settings p.kind.bits coder)) (sym is)
+          (by_coder p (Sample umax gamma_star gamma_zero (Constant k)) bits (limit, size, first, order, omega (arith, small)) tt);
+    }
 
 pub settings_bits : (p : Params) → (settings p).bits ≡ p.kind.bits
 settings_bits p =

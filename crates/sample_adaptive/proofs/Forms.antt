@@ -1,4 +1,4 @@
--- Code words as numbers, and that no form begins another.
+-- Code words as numbers, and that no form is a prefix of another.
 use Rattle.std.proofs.Common.{◌≡◌, ℕ, zero, suc, ◌+◌, ◌*◌, ◌/◌, ◌%◌, ◌^◌, ◌<◌, ◌≤◌, Bool, true, false, List, [], ◌∷◌, ◌++◌, replicate, refl, sym, ap, ◌∙◌}
 use Rattle.std.proofs.Common.{append_assoc, arith, inl, inr}
 use Rattle.std.proofs.lemmas.List.{append_cancel_left}
@@ -45,7 +45,7 @@ escape_below limit bits n lt =
     let most : 2 ^ bits ≤ 2 ^ (limit + bits) = pow_mono {i = bits} {j = limit + bits} (omega arith) in
     omega arith
 
--- ---- no form begins another
+-- ---- no form is a prefix of another
 
 tail_of : (b d : Bool) (x y : List Bool) → b ∷ x ≡ d ∷ y → x ≡ y
 tail_of b d x y e = cc

@@ -79,14 +79,14 @@ gives_more numbers_of (Ok x) p old new numbers bits unread left count h kept man
 gives_more numbers_of (Err fault) p old new numbers bits unread left count h kept many did =
     let c : CoderSettings = settings p in
     let gone : List Place = places_of p numbers in
-    let behind : List Place = drop (length numbers) (places p.shape p.order) in
-    let bad : words_at unread.count c [] [] (gone ++ (take count behind ++ drop count behind)) (bits ++ unread.left) ≡ Err fault = rw (
-      words_at_append unread.count c [] [] gone (take count behind ++ drop count behind) (bits ++ unread.left),
+    let later : List Place = drop (length numbers) (places p.shape p.order) in
+    let bad : words_at unread.count c [] [] (gone ++ (take count later ++ drop count later)) (bits ++ unread.left) ≡ Err fault = rw (
+      words_at_append unread.count c [] [] gone (take count later ++ drop count later) (bits ++ unread.left),
       h.read unread.count unread.left,
-      words_at_append unread.count c gone numbers (take count behind) (drop count behind) unread.left,
+      words_at_append unread.count c gone numbers (take count later) (drop count later) unread.left,
       did.0,
     ) refl in
-    rw (take-append-drop count behind, take-append-drop (length numbers) (places p.shape p.order)) at bad
+    rw (take-append-drop count later, take-append-drop (length numbers) (places p.shape p.order)) at bad
 
 -- the place of the next number comes first after those of the numbers before it
 next_first : (places : List Place) (n : ℕ) (p : Place) (count : ℕ) → slice_get places n ≡ Some p
@@ -98,8 +98,8 @@ next_first places n p count at =
 module _ (p : Params) (n count : ℕ) (zs ts : ℕ → ℕ)
     (next : (i : ℕ) (numbers : List ℕ) → i < count → length numbers ≡ n + i → IsNext p numbers (zs i) (ts i)) where
   are_each : (k i : ℕ) (numbers : List ℕ) → i + k ≡ count → length numbers ≡ n + i
-      → (let behind = take k (drop (length numbers) (places p.shape p.order)) in
-      AreEach zs ts i (places_of p numbers) numbers behind × (k ≡ length behind))
+      → (let later = take k (drop (length numbers) (places p.shape p.order)) in
+      AreEach zs ts i (places_of p numbers) numbers later × (k ≡ length later))
   are_each zero i numbers all long = (tt, refl)
   are_each (suc k) i numbers all long =
       let q = next i numbers (omega (arith, all)) long in

@@ -57,7 +57,7 @@ module _ (zs ts : ℕ → ℕ) (i index : ℕ) (old new : Counts) (unread : Unre
 
 pub starts : {zs ts : ℕ → ℕ} {k index : ℕ} {v w : Counts} {first : Unread} {numbers : List ℕ} → w ≡ v → Reaches zs ts k index 0 v w first first numbers
 starts {k = k} {index = index} same = record {
-  behind = λ r new left ys rest.
+  append = λ r new left ys rest.
       let here : k + 0 ≡ k = omega arith in
       let there : index + 0 ≡ index = omega arith in
       rw (here, there, same) at rest;
@@ -68,10 +68,10 @@ module _ {zs ts : ℕ → ℕ} {k index i : ℕ} {v w : Counts} {first was : Unr
       → word_at was.count (index + i) (code_by w (zs (k + i)) (ts (k + i))) was.left ≡ Ok (number, now.left) → now.count ≡ was.count
       → counted w (zs (k + i)) (ts (k + i)) number ≡ next → Reaches zs ts k index (i + 1) v next first now (set numbers i number)
   steps {number = number} {now = now} inside lt read same counts = record {
-    behind = λ r new left ys rest.
+    append = λ r new left ys rest.
         let here : k + (i + 1) ≡ k + i + 1 = omega arith in
         let there : index + (i + 1) ≡ index + i + 1 = omega arith in
-        let all = h.behind r new left (number ∷ ys) (cons zs ts (k + i) (index + i) w new was left inside number r now ys read same
+        let all = h.append r new left (number ∷ ys) (cons zs ts (k + i) (index + i) w new was left inside number r now ys read same
         (rw counts (rw (here, there) at rest))) in
         rw (add-one i, take-suc-set numbers i number lt, append_assoc (take i numbers) (number ∷ []) ys) all;
   }
@@ -81,10 +81,10 @@ module _ {zs ts : ℕ → ℕ} {k index i : ℕ} {v w : Counts} {first was : Unr
   stops fault new left inside lt read =
       let some : 0 < length (drop i numbers) = omega (arith, lt, length-drop i numbers) in
       rw (take-append-drop i numbers) at
-      (h.behind (Err fault) new left (drop i numbers) (refused zs ts (k + i) (index + i) w new was left inside fault (drop i numbers) read some))
+      (h.append (Err fault) new left (drop i numbers) (refused zs ts (k + i) (index + i) w new was left inside fault (drop i numbers) read some))
 
   pub ends : length numbers ≤ i → GetsEach zs ts k index (Ok tt) v first w was.left numbers
-  ends le = rw (append-nil (take i numbers), take_all i numbers le) at (h.behind (Ok tt) w was.left [] (none zs ts (k + i) (index + i) w was))
+  ends le = rw (append-nil (take i numbers), take_all i numbers le) at (h.append (Ok tt) w was.left [] (none zs ts (k + i) (index + i) w was))
 
 -- ---- numbers of one band, none of which is its first
 

@@ -104,10 +104,10 @@ parted z t xs ys gone places before e f h is =
       joined = rw (append_assoc, take-append-drop) refl;
     }
 
-pub run_behind : (z t : ℕ) (xs ys : List ℕ) (old mid new : Counts) (written written_mid written_now : List Bool) → PutsRun z t xs old written mid written_mid
+pub run_after : (z t : ℕ) (xs ys : List ℕ) (old mid new : Counts) (written written_mid written_now : List Bool) → PutsRun z t xs old written mid written_mid
     → PutsRun z (t + length xs) ys mid written_mid new written_now
     → PutsRun z t (xs ++ ys) old written new written_now
-run_behind z t xs ys old mid new written written_mid written_now first second c gone places before e f h taken is =
+run_after z t xs ys old mid new written written_mid written_now first second c gone places before e f h taken is =
     let p = parted z t xs ys gone places before e f h is in
     let a = first c gone (take (length xs) places) before e p.few p.own taken is in
     let b = second c (gone ++ take (length xs) places) (drop (length xs) places) (before ++ xs) p.long p.rest p.others a.1 p.time in
@@ -139,7 +139,7 @@ run_step z t i number v s next numbers written was now lt some within there text
     let here : now ≡ was ++ code_word (code_by (with_band v z s) z (t + length (take i numbers))) number = rw (later_code z _ v s lt later) text in
     let puts = puts_number z (t + length (take i numbers)) number (with_band v z s) was now (later_inside z _ v s lt later) here in
     let one = run_one z (t + length (take i numbers)) number (with_band v z s) _ was now puts in
-    let both = run_behind z t (take i numbers) (number ∷ []) v (with_band v z s) _ written was now run one in
+    let both = run_after z t (take i numbers) (number ∷ []) v (with_band v z s) _ written was now run one in
     rw (counts, ← later_counted z (t + length (take i numbers)) v s lt later number, take_more numbers i 0 within, ← there) both
 
 pub same_band : (v : Counts) (z : ℕ) (s : Statistics) → s ≡ of_band v.bands z → with_band v z s ≡ v
@@ -150,9 +150,9 @@ pub two_words : (was now a b v w : List Bool) → now ≡ was ++ a ++ b → a �
 two_words was now a b v w text e f = text ∙ ap₂ (λ (p q : List Bool). was ++ p ++ q) e f
 
 -- a list whose end was written anew, after its first numbers
-pub behind_first : (first rest : List ℕ) (n : ℕ) → n ≤ length first → length rest ≡ length (take (length first - n) (drop n first))
+pub after_first : (first rest : List ℕ) (n : ℕ) → n ≤ length first → length rest ≡ length (take (length first - n) (drop n first))
     → put_mid n (length first - n) first rest ≡ take n first ++ rest
-behind_first first rest n within long =
+after_first first rest n within long =
     let part : length rest ≡ length first - n = omega (arith, long, length-take (length first - n) (drop n first), length-drop n first) in
     let all = same_len_mid n (length first - n) first rest long in
     sym (take_all (n + length rest) _ (omega (arith, all, part, within))) ∙ take-put_mid n (length first - n) first rest (n + length rest) refl within

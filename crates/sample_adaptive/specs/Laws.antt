@@ -22,7 +22,7 @@ OneForm = (c : Code) (f g : Form) (x y : List Bool) → IsForm c f → IsForm c 
 abbrev pub OneWord : Type 0
 OneWord = (c : Code) (m n : ℕ) (x y : List Bool) → m < 2 ^ c.bits → n < 2 ^ c.bits → code_word c m ++ x ≡ code_word c n ++ y → (m ≡ n) × (x ≡ y)
 
--- no body of one list of numbers is a prefix of a body of another
+-- no body is a prefix of the body of another list of as many numbers
 abbrev pub OneBody : Type 0
 OneBody =
     (c : CoderSettings) (places : List Place) (ms ns : List ℕ) (x y : List Bool)

@@ -18,7 +18,7 @@ unfoldable pub constant_of : CountStart → ℕ → ℕ
 constant_of (Constant k) z = k
 constant_of (Each table) z = slice_index table z
 
--- Γ(1) is 2^γ0 and Σ(1) is floor((3·2^(K+6) - 49)·Γ(1) / 128)
+-- Γ(1) is 2^γ₀ and Σ(1) is floor((3·2^(K+6) - 49)·Γ(1) / 128)
 unfoldable pub start_statistics : ℕ → ℕ → Statistics
 start_statistics gamma_zero k = record { counter = 2 ^ gamma_zero; accumulator = (3 * 2 ^ (k + 6) - 49) * 2 ^ gamma_zero / 128 }
 

@@ -119,7 +119,7 @@ GetsRun z t index result old unread new left numbers = GetsEach (λ i. z) (λ i.
 abbrev pub GetsColumn : ℕ → ℕ → ℕ → Result (Unit {0}) Fault → Counts → Unread → Counts → List Bool → List ℕ → Type 0
 GetsColumn z t index result old unread new left numbers = GetsEach (λ i. z + i) (λ i. t) 0 index result old unread new left numbers
 
--- whatever comes after the first i numbers, is one list with them
+-- the first i numbers were read: with whatever numbers are read after them, they are read as one list
 pub record Reaches (zs ts : ℕ → ℕ) (k index i : ℕ) (v w : Counts) (first now : Unread) (numbers : List ℕ) : Type 0 where
-  pub behind : (r : Result (Unit {0}) Fault) (new : Counts) (left : List Bool) (ys : List ℕ)
+  pub append : (r : Result (Unit {0}) Fault) (new : Counts) (left : List Bool) (ys : List ℕ)
       → GetsEach zs ts (k + i) (index + i) r w now new left ys → GetsEach zs ts k index r v first new left (take i numbers ++ ys)

@@ -15,7 +15,8 @@ use header_bits::bit_writer::BitWriter;
 /// How the next number is written (CCSDS 123.0-B-1, "Sample-adaptive entropy coder").
 #[derive(Clone, Copy, Debug, PartialEq, Eq)]
 pub struct Code {
-    /// How many zeros a word has at most: the unary length limit, or 0 for the first number of a band.
+    /// How many zeros come before the number of an escape: the unary length limit, or 0 for the first number of a band. A word
+    /// that is no escape begins with fewer.
     pub limit: u32,
     /// k, how many low bits follow the one.
     pub low: u32,
@@ -183,7 +184,7 @@ fn plain(code: Code, index: u64, zeros: u64, low: u64) -> Result<u16, Fault>
     }
 }
 
-/// Returns the number of an escape. Without one it would have too many zeros.
+/// Returns the number of an escape, or `BadCode` where its quotient is below the limit, so that it needs no escape.
 #[inline(always)]
 fn escaped(code: Code, index: u64, number: u64) -> Result<u16, Fault>
     requires code { IsCode code }

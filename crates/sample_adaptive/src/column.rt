@@ -20,10 +20,10 @@ impl Stats {
     /// Reads number `t` of band `z`, then that of the next band, and so on, whose code words come next, into `numbers`,
     /// and updates the bands' statistics.
     ///
-    /// `t` counts each band's numbers from 0, and the first number is at `index` in encoding order. At most
-    /// 65,536 numbers are read. Where a number is refused, it returns the fault that `get` returns, but `BadCode` has the
-    /// number's index in encoding order. Then the reader keeps its position, every later call returns the same, and the
-    /// statistics and what is in `numbers` are unspecified.
+    /// `t` counts each band's numbers from 0, and the first number is at `index` in encoding order. At most 65,536 numbers are
+    /// read, and from `z` on there are at least as many bands. Where a number is refused, it returns the fault that `get` returns,
+    /// but `BadCode` has the number's index in encoding order. Then the reader keeps its position, every later read returns the
+    /// same, and the statistics and what is in `numbers` are unspecified.
     #[inline]
     pub fn get_column(
         &mut self,
@@ -181,7 +181,7 @@ fn take_known(
     Ok(number)
 }
 
-/// Does the same, where all numbers are the first of their bands or none is.
+/// Does what `take_column` does, where all numbers are the first of their bands or none is.
 #[inline(always)]
 fn take_each(
     run: RunCodes,

@@ -13,7 +13,7 @@ pub fn one_word()
     ensures { OneWord }
 {}
 
-/// No body of one list of numbers is a prefix of a body of another.
+/// No body is a prefix of the body of another list of as many numbers.
 pub fn one_body()
     ensures { OneBody }
 {}

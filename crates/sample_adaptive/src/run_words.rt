@@ -87,7 +87,7 @@ fn word_within(run: RunCodes, tracked: Tracked, number: u16) -> (Word, Tracked)
     (word, next)
 }
 
-/// Reserves room for so many code words. It allocates no more than that, or than as many bits as there are.
+/// Reserves room for so many code words. The room grows to that, in whole bytes, or to as many bits as are written if these are more.
 pub(crate) fn make_room(words: usize, writer: &mut BitWriter) -> Result<(), Fault>
     requires few { words ≤ 2 ^ 16 }
     ensures same { writer.new.bits ≡ writer.old.bits }

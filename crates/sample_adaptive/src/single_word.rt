@@ -15,8 +15,8 @@ impl Stats {
     ///
     /// `t` counts the band's numbers from 0. Where no code word comes next, it returns `BadCode` with `t` as the place
     /// if the bits are of a code word's form but no number's (a needless escape, or a number above 2^D - 1), and
-    /// `Truncated` otherwise. Then the reader keeps its position, every later call returns the same, and nothing else
-    /// was changed.
+    /// `Truncated` otherwise. Then the reader keeps its position, every later read returns the same, and nothing else
+    /// was changed. `z` is below the number of bands.
     #[inline(always)]
     pub fn get(&mut self, z: u32, t: u64, reader: &mut BitReader) -> Result<u16, Fault>
         requires { z < length self.old.bands }
@@ -35,7 +35,7 @@ impl Stats {
     }
 
     /// Reads number `t` of band `z`, as `get` does, but a `BadCode` names `index`: the number's index in encoding order, say.
-    /// One that a later call returns names the later call's index.
+    /// After a refusal a later `get_at` names its own index; the other calls return the first refusal as it was.
     #[inline(always)]
     pub fn get_at(
         &mut self,

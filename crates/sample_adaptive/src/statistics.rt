@@ -96,7 +96,7 @@ pub(crate) fn parameter(bits: u32, s: Statistics) -> u32
         return 0;
     }
     let shift = level.ilog2() - s.counter.ilog2();
-    // The comparison is a number, since it comes out either way as often, and a branch on it would be guessed.
+    // The comparison is taken as a number: it is true about half of the time, and a branch on it would be mispredicted.
     let less = u32::from(s.counter << shift > level);
     (shift - less).min(bits - 2)
 }

@@ -27,7 +27,7 @@ use std::marker::Model;
 pub struct Stats {
     pub(crate) codes: RunCodes,
     pub(crate) bands: Vec<Tracked>,
-    /// The fault for which a `get` was refused, if one was: every later one is refused for the same.
+    /// The fault for which a read was refused, if one was: every later read is refused for the same.
     pub(crate) refused: Option<Fault>,
 }
 
@@ -84,8 +84,9 @@ impl Stats {
 
     /// Appends the code word of number `t` of band `z`, and updates the band's statistics.
     ///
-    /// `t` counts the band's numbers from 0, and the number is at most 2^D - 1. The word has at most 48 bits and is
-    /// pushed at once. Returns `WantOfMemory` if an allocation fails; then nothing was changed.
+    /// `z` is below the number of bands, `t` counts the band's numbers from 0, and the number is at most 2^D - 1. The word has at
+    /// most 48 bits and is pushed at once; it succeeds where the writer has room for 48 bits. Returns `WantOfMemory` if an
+    /// allocation fails, or if there would be more than 2^63 bits; then nothing was changed.
     #[inline(always)]
     pub fn put(&mut self, z: u32, t: u64, delta: u16, writer: &mut BitWriter) -> Result<(), Fault>
         requires band { z < length self.old.bands }
@@ -106,9 +107,9 @@ impl Stats {
 
     /// Appends the code words of numbers `t`, `t + 1`, .. of band `z`, and updates the band's statistics.
     ///
-    /// `t` counts the band's numbers from 0. The run is within a row, so it has at most 65,536 numbers, and each is at
-    /// most 2^D - 1. Returns `WantOfMemory` if an allocation fails; then nothing was changed. It succeeds where the
-    /// writer has room for 48 bits a number.
+    /// `z` is below the number of bands, and `t` counts the band's numbers from 0. The run is within a row, so it has at most
+    /// 65,536 numbers, and each is at most 2^D - 1. Returns `WantOfMemory` if an allocation fails, or if there would be more than
+    /// 2^63 bits; then nothing was changed. It succeeds where the writer has room for 48 bits a number.
     #[inline]
     pub fn put_run(
         &mut self,
@@ -160,7 +161,7 @@ impl Stats {
     ///
     /// `t` counts the band's numbers from 0, and the first is at `index` in encoding order. The run is within
     /// a row, so it has at most 65,536 numbers. Where a number is refused, it returns the fault that `get` returns, but
-    /// `BadCode` has the number's index in encoding order. Then the reader keeps its position, every later call returns
+    /// `BadCode` has the number's index in encoding order. Then the reader keeps its position, every later read returns
     /// the same, nothing else was changed, and what is in `numbers` is unspecified.
     #[inline]
     pub fn get_run(

@@ -9,7 +9,7 @@ use crate::statistics::{Statistics, counted, halved, level, parameter};
 
 /// Statistics, and the code parameter of the number before, which most numbers leave as it was.
 ///
-/// The parameter's products with the statistics are held, so that it takes two comparisons to see that it still holds.
+/// Γ·2^k is held, so that mostly two comparisons show that k still holds.
 #[derive(Clone, Copy)]
 pub(crate) struct Tracked {
     pub statistics: Statistics,
@@ -41,7 +41,7 @@ impl Tracked {
 
     /// Brings the code parameter up to date with the statistics.
     ///
-    /// It mostly is, and then nothing is written.
+    /// Mostly two comparisons show that it is, and then nothing is written.
     #[inline(always)]
     pub(crate) fn settle(&mut self, run: RunCodes)
         requires { IsTracked run self.old }

@@ -34,7 +34,7 @@ pub fn second_band_predicted_from_first()
 {}
 
 /// Three samples in each of two bands.
-pub fn weights_clipped_from_below()
+pub fn step_rounded_down()
     ensures { filled_up (sample_body common (bands_apart 1 3 2) (55 ∷ 3 ∷ 15 ∷ 0 ∷ 3 ∷ 0 ∷ [])) ≡ bits_of_bytes (0x37 ∷ 0xB7 ∷ 0x80 ∷ 0x5C ∷ 0x00 ∷ []) }
 {}
 
@@ -77,7 +77,7 @@ pub fn wide_register()
     ensures { filled_up (sample_body (of_bits 11) (bands_apart 1 2 2) (2039 ∷ 8 ∷ 7 ∷ 0 ∷ [])) ≡ bits_of_bytes (0xFE ∷ 0xE8 ∷ 0x00 ∷ 0xF0 ∷ []) }
 {}
 
-/// Numbers after a table of weights.
+/// The residuals of a cube whose weights start from a table.
 pub fn weight_table()
     ensures { filled_up (sample_body common (bands_apart 1 2 2) (55 ∷ 19 ∷ 99 ∷ 30 ∷ [])) ≡ bits_of_bytes (0x37 ∷ 0x2D ∷ 0x8C ∷ 0x70 ∷ []) }
 {}
@@ -121,12 +121,12 @@ pub fn no_error()
 {}
 
 /// Two bands whose code parameter grows.
-pub fn weights_clipped_from_above()
+pub fn weight_stops_at_the_least()
     ensures { filled_up (sample_body common (bands_apart 1 3 2) (56 ∷ 55 ∷ 27 ∷ 76 ∷ 27 ∷ 3 ∷ []))
         ≡ bits_of_bytes (0x38 ∷ 0x03 ∷ 0xDB ∷ 0x4C ∷ 0x17 ∷ 0x30 ∷ []) }
 {}
 
-/// A number of 0 after an escape.
+/// A number of 0 before an escape.
 pub fn greatest_prediction()
     ensures { filled_up (sample_body common (bands_apart 1 3 2) (97 ∷ 255 ∷ 182 ∷ 228 ∷ 0 ∷ 149 ∷ [])) ≡ bits_of_bytes (0x61 ∷ 0x00 ∷ 0x00 ∷ 0xFF ∷ 0x3B ∷ 0x72
         ∷ 0x40 ∷ 0x00 ∷ 0x04 ∷ 0xA8 ∷ []) }

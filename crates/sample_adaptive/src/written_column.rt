@@ -21,9 +21,9 @@ impl Stats {
     /// Appends the code word of number `t` of band `z`, then that of the next band, and so on, and updates the bands'
     /// statistics.
     ///
-    /// `t` counts each band's numbers from 0, and each number is at most 2^D - 1. At most 65,536 numbers are put.
-    /// Returns `WantOfMemory` if an allocation fails; then nothing was changed. It succeeds where the writer has room
-    /// for 48 bits a number.
+    /// `t` counts each band's numbers from 0, and each number is at most 2^D - 1. At most 65,536 numbers are put, and from `z` on
+    /// there are at least as many bands. Returns `WantOfMemory` if an allocation fails, or if there would be more than 2^63 bits;
+    /// then nothing was changed. It succeeds where the writer has room for 48 bits a number.
     #[inline]
     pub fn put_column(
         &mut self,

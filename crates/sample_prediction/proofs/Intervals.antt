@@ -25,9 +25,9 @@ in_first_row : (p : Predictor) (columns t : ℕ) → p.vmin ≤ℤ p.vmax → t 
 unfolding growth
 in_first_row p columns t h k = held_low _ p.vmin p.vmax h (below_zero (pos t -ℤ pos columns) (2 ^ p.interval_log) (omega (arith, ints)))
 
-behind_first_row : (p : Predictor) (columns t : ℕ) → columns ≤ t → growth p columns t ≡ clip (p.vmin +ℤ pos ((t - columns) / 2 ^ p.interval_log)) p.vmin p.vmax
+after_first_row : (p : Predictor) (columns t : ℕ) → columns ≤ t → growth p columns t ≡ clip (p.vmin +ℤ pos ((t - columns) / 2 ^ p.interval_log)) p.vmin p.vmax
 unfolding growth
-behind_first_row p columns t h = let e : pos t -ℤ pos columns ≡ pos (t - columns) = omega (arith, ints) in rw e refl
+after_first_row p columns t h = let e : pos t -ℤ pos columns ≡ pos (t - columns) = omega (arith, ints) in rw e refl
 
 pub alike_in_first_row : (p : Predictor) (columns bits t k : ℕ) → p.vmin ≤ℤ p.vmax → t + k < columns
     → step_exponent p columns bits (t + k) ≡ step_exponent p columns bits t
@@ -40,8 +40,8 @@ pub alike_later : (p : Predictor) (columns bits t k : ℕ) → columns ≤ t
 unfolding step_exponent
 alike_later p columns bits t k h e =
     let s : t + k - columns ≡ t - columns + k = omega arith in let m : columns ≤ t + k = omega arith in
-    ap (λ v. v +ℤ pos bits -ℤ pos p.omega) (behind_first_row p columns (t + k) m ∙ ap (λ n. clip (p.vmin +ℤ pos (n / 2 ^ p.interval_log)) p.vmin p.vmax) s
-    ∙ e ∙ sym (behind_first_row p columns t h))
+    ap (λ v. v +ℤ pos bits -ℤ pos p.omega) (after_first_row p columns (t + k) m ∙ ap (λ n. clip (p.vmin +ℤ pos (n / 2 ^ p.interval_log)) p.vmin p.vmax) s
+    ∙ e ∙ sym (after_first_row p columns t h))
 
 -- from where the exponent is the greatest
 pub alike_at_most : (low high : ℤ) (a b : ℕ) → low ≤ℤ high → high ≤ℤ (low +ℤ pos a) → a ≤ b → clip (low +ℤ pos b) low high ≡ clip (low +ℤ pos a) low high

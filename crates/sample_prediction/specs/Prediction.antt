@@ -17,7 +17,7 @@ inner_product [] us = pos 0
 inner_product (w ∷ ws) [] = pos 0
 inner_product (w ∷ ws) (u ∷ us) = w *ℤ u +ℤ inner_product ws us
 
--- twice a predicted sample, from a local sum, weights and differences
+-- a scaled predicted sample value, from a local sum, weights and differences
 unfoldable pub scaled_by : Predictor → SampleKind → ℤ → List ℤ → List ℤ → ℤ
 scaled_by p k sum ws us =
     let register = wrapped p.register (inner_product ws us +ℤ pos (2 ^ p.omega) *ℤ (sum -ℤ pos 4 *ℤ smid k)) in

@@ -49,7 +49,7 @@ weights_by p (Table q entries) z = table_weights p q entries z
 abbrev pub start_weights : Params → ℕ → List ℤ
 start_weights p z = weights_by (predictor_of p) p.start z
 
--- how far the exponent of the steps has grown at place t: by one in each interval from the second row on
+-- the exponent of the steps at place t without the term D - Ω: the least, plus one for each interval since the second row began, up to the greatest
 unfoldable pub growth : Predictor → ℕ → ℕ → ℤ
 growth p columns t = clip (p.vmin +ℤ floor_div (pos t -ℤ pos columns) (2 ^ p.interval_log)) p.vmin p.vmax
 

@@ -22,7 +22,8 @@ pub fn exponent_at(predictor: &Predictor, columns: u32, bits: u32, t: u64) -> i3
     growth_at(predictor, columns, t) + bits as i32 - predictor.omega as i32
 }
 
-/// Returns how far the exponent has grown at place `t`.
+/// Returns the exponent at place `t` without the term D - Ω: v_min, plus one for each interval since the second row began, and at
+/// most v_max.
 #[inline(always)]
 fn growth_at(predictor: &Predictor, columns: u32, t: u64) -> i32
     requires lawful { IsPredictor predictor.now }
@@ -38,7 +39,7 @@ fn growth_at(predictor: &Predictor, columns: u32, t: u64) -> i32
     (least + intervals).clamp(least, greatest) as i32
 }
 
-/// Returns how many intervals lie between the second row and a place.
+/// Returns how many whole intervals have passed since the second row began; it is negative in the first row.
 #[inline(always)]
 fn intervals_at(interval_log: u32, columns: u32, t: u64) -> i64
     requires interval_in { interval_log ≤ 11 }
@@ -63,11 +64,11 @@ pub fn places_alike(predictor: &Predictor, columns: u32, t: u64, most: usize) ->
     ensures few { result ≤ most }
     ensures alike { (bits k : ℕ) → k < result → step_exponent predictor.now columns bits (t + k) ≡ step_exponent predictor.now columns bits t }
 {
-    let behind = columns as u64;
-    if t < behind {
-        (behind - t).min(most as u64) as usize
+    let width = columns as u64;
+    if t < width {
+        (width - t).min(most as u64) as usize
     } else {
-        alike_after(predictor, t - behind, most)
+        alike_after(predictor, t - width, most)
     }
 }
 

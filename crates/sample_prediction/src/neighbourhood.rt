@@ -9,7 +9,8 @@ ghost use Rattle.sample_prediction.specs.OffsetSum.{offset_sum, offset_differenc
 /// Returns four times an average of the neighbours of a place: `row` is its own row, and `above` the one above
 /// it.
 ///
-/// The first row of a band has none above it; then `above` isn't read (CCSDS 123.0-B-1, "Local Sums").
+/// The place is not the first of its band. The first row has none above it; then `above` isn't read, but is as long as `row`.
+/// Neighbour-oriented sums need two columns (CCSDS 123.0-B-1, "Local Sums").
 #[inline(always)]
 pub fn sum_of(column: bool, y: u32, row: &[u16], above: &[u16], x: usize) -> u32
     requires inside { x < length row.now }
@@ -69,7 +70,7 @@ pub fn difference_of(offset: u16, sum: u32) -> i32
     4 * offset as i32 - sum as i32
 }
 
-/// Returns the central difference at a place.
+/// Returns the central difference at a place, of which the same holds as for `sum_of`.
 #[inline(always)]
 pub fn central_of(column: bool, y: u32, row: &[u16], above: &[u16], x: usize) -> i32
     requires inside { x < length row.now }
@@ -87,8 +88,8 @@ pub fn central_of(column: bool, y: u32, row: &[u16], above: &[u16], x: usize) ->
     difference_of(row[x], sum)
 }
 
-/// Returns whether a local sum takes four neighbours, as it mostly does. The answer at a place is the same for
-/// all bands, so it is found once for all of them.
+/// Returns whether a local sum takes four neighbours, as it mostly does. The answer at a place is the same for all bands, so
+/// that the compiler can take it out of the loop over them.
 #[inline(always)]
 fn is_inside(column: bool, y: u32, x: usize, columns: usize) -> bool
     requires { x < columns }

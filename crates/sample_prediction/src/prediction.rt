@@ -14,7 +14,10 @@ use crate::range::Range;
 use crate::register::{floor_shift, register_of, wrapped_value};
 use crate::weights::{product_of, product_of_first};
 
-/// Returns twice a predicted sample, from the local sum, the weights and the differences.
+/// Returns the scaled predicted sample value, from the local sum, the weights and the differences.
+///
+/// `sum` is the local sum of the samples, not of their offsets. `count` is at most 18, and the differences from index `count` on
+/// are 0.
 #[inline(always)]
 pub fn scaled_by(
     predictor: &Predictor,
@@ -58,8 +61,9 @@ fn scaled_by_product(predictor: &Predictor, range: &Range, sum: i32, product: i6
 /// Returns the predicted central difference at a place, by the first `N` weights. The scaled prediction follows
 /// from it.
 ///
-/// Where nothing wraps in the register, it is the sum of the products, without the weights' fraction, rounded
-/// down. Where something does, it is the difference that leads to the same scaled prediction.
+/// It is the sum of the products, without the weights' fraction, rounded down. Where the register may wrap, it is a difference
+/// that leads to the same scaled prediction. `WRAPS` may be false only for a register of 46 bits or more, which never wraps.
+/// `sum` is the local sum of the samples, not of their offsets.
 #[inline(always)]
 pub fn predicted_difference<const N: usize, const WRAPS: bool>(
     predictor: &Predictor,
@@ -86,10 +90,10 @@ pub fn predicted_difference<const N: usize, const WRAPS: bool>(
     }
 }
 
-/// Returns whether the register may wrap what it takes, for the sum of products `product`, which is `part` without the
-/// weights' fraction, and the local sum `sum`.
+/// Returns whether the register may wrap: `part` is the sum of the products, `product`, without the weights' fraction, and `sum`
+/// is the local sum.
 ///
-/// Without the fraction it fits in a word of 32 bits. The register seldom wraps, so the weights needn't wait for the answer.
+/// The test takes 32 bits. Its branch is mostly predicted, so that the weights don't wait for it.
 #[inline(always)]
 fn may_wrap<const WRAPS: bool>(
     predictor: &Predictor,
@@ -110,7 +114,7 @@ fn may_wrap<const WRAPS: bool>(
     WRAPS && register_limit(predictor) <= upper.unsigned_abs()
 }
 
-/// Returns a power of two that fits in the register above the weights' fraction, of either sign.
+/// Returns a power of two: every number of a smaller size, of either sign, fits in the register above the weights' fraction.
 #[inline(always)]
 fn register_limit(predictor: &Predictor) -> u32
     requires { IsPredictor predictor.now }
@@ -154,7 +158,7 @@ fn difference_of(scaled: i32, sum: i32) -> i32
     2 * scaled - 2 - sum
 }
 
-/// Returns the middle of the prediction's range, moved by the upper part of the register.
+/// Returns the scaled prediction before it is clipped: the upper part of the register, plus twice the middle, plus 1.
 #[inline(always)]
 fn center_of(upper: i64, middle: i32) -> i64
     requires upper_in { unsigned_abs upper ≤ 2 ^ 62 }

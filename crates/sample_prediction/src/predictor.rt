@@ -24,16 +24,16 @@ pub struct Predictor {
     pub register: u32,
     /// Ω, the number of fractional bits of a weight.
     pub omega: u32,
-    /// The logarithm of the interval at which the exponent of the steps grows.
+    /// The logarithm to base 2 of t_inc, the interval at which the exponent of the steps grows.
     pub interval_log: u32,
-    /// v_min, the least weight update scaling exponent.
+    /// v_min: the exponent of the steps starts at v_min + D - Ω.
     pub vmin: i32,
-    /// v_max, the greatest weight update scaling exponent.
+    /// v_max: it grows up to v_max + D - Ω.
     pub vmax: i32,
 }
 
 impl Predictor {
-    /// Returns those of an image's parameters.
+    /// Returns the predictor's parameters among those of an image, which are lawful.
     pub fn of(params: &Params) -> Predictor
         requires { IsLawful params.now }
         ensures value { result ≡ predictor_of params.now }

@@ -47,7 +47,7 @@ impl Range {
         }
     }
 
-    /// Returns the mapped residual of a sample.
+    /// Returns the mapped residual of a sample. The scaled prediction is 2·s_min to 2·s_max + 1.
     #[inline(always)]
     pub fn residual_of(&self, scaled: i32, sample: i32) -> u16
         requires scaled { IsScaled self.now.kind scaled }
@@ -58,7 +58,7 @@ impl Range {
         map_between(self.smin, self.smax, scaled, sample)
     }
 
-    /// Returns the sample of a mapped residual.
+    /// Returns the sample of a mapped residual, at most 2^D - 1. The scaled prediction is 2·s_min to 2·s_max + 1.
     #[inline(always)]
     pub fn sample_of(&self, scaled: i32, delta: u16) -> i32
         requires scaled { IsScaled self.now.kind scaled }

@@ -25,8 +25,7 @@ pub fn floor_shift(value: i64, by: u32) -> i64
     value >> by
 }
 
-/// Returns what goes into the register: the sum of the products, and the distance of the local sum from four
-/// times the middle.
+/// Returns what goes into the register: the sum of the products, plus 2^Ω times the local sum less four times the middle.
 pub fn register_of(omega: u32, product: i64, sum: i32, middle: i32) -> i64
     requires omega_in { omega ≤ 19 }
     requires product_in { unsigned_abs product ≤ 2 ^ 44 }

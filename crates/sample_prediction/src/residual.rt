@@ -34,7 +34,7 @@ pub fn unmap_residual(kind: Kind, stilde: i32, delta: u16) -> i32
     unmap_between(kind.smin(), kind.smax(), stilde, delta)
 }
 
-/// Returns the mapped residual of `v`, a sample between `low` and `high`.
+/// Returns the mapped residual of `v`, a sample between `low` and `high`. `scaled` is 2·`low` to 2·`high` + 1.
 #[inline(always)]
 pub fn map_between(low: i32, high: i32, scaled: i32, v: i32) -> u16
     requires low_in { negsuc 32767 ≤ℤ low }
@@ -54,7 +54,8 @@ pub fn map_between(low: i32, high: i32, scaled: i32, v: i32) -> u16
     map_error(theta, size, sign) as u16
 }
 
-/// Returns the sample between `low` and `high` whose mapped residual is `delta`.
+/// Returns the sample between `low` and `high` whose mapped residual is `delta`, at most `high` - `low`. `scaled` is 2·`low` to
+/// 2·`high` + 1.
 #[inline(always)]
 pub fn unmap_between(low: i32, high: i32, scaled: i32, delta: u16) -> i32
     requires low_in { negsuc 32767 ≤ℤ low }
@@ -73,7 +74,7 @@ pub fn unmap_between(low: i32, high: i32, scaled: i32, delta: u16) -> i32
     predicted + unmap_error(theta, below, scaled.unsigned_abs(), delta as u32)
 }
 
-/// Returns all ones where the sample of the mapped residual `delta` is less than its prediction, else 0.
+/// Returns all ones where twice the sample of the mapped residual `delta` is less than the scaled prediction, else 0.
 ///
 /// Parities tell it before the sample is found.
 #[inline(always)]
@@ -93,10 +94,11 @@ fn sign_mask_between(low: i32, high: i32, scaled: i32, delta: u16) -> i32
     sign_mask_of_number(theta, below, scaled.unsigned_abs(), delta as u32)
 }
 
-/// Returns both: the sample of the mapped residual `delta`, and all ones where it is less than its prediction, else 0.
+/// Returns both: the sample of the mapped residual `delta`, and all ones where twice the sample is less than the scaled
+/// prediction, else 0.
 ///
-/// The scaled prediction is `center`, clipped. Where half of `delta` is no farther than either end of the range, as it
-/// mostly is, nothing was clipped, and both take a few steps.
+/// The scaled prediction is `center`, at most 2^26 with either sign, clipped. Where the prediction is at least half of `delta`
+/// away from both ends of the range, as it mostly is, nothing was clipped, and both take a few steps.
 #[inline(always)]
 pub fn unmap_by_center(low: i32, high: i32, center: i32, delta: u16) -> (i32, i32)
     requires low_in { negsuc 32767 ≤ℤ low }
@@ -138,8 +140,8 @@ fn clipped(low: i32, high: i32, center: i32) -> i32
     center.min(2 * high + 1).max(2 * low)
 }
 
-/// Returns the sample of a mapped residual by its scaled prediction, wherever in the range it is, and all ones
-/// where it is less than its prediction, else 0.
+/// Returns the sample of a mapped residual by its scaled prediction, wherever in the range it is, and all ones where twice the
+/// sample is less than the scaled prediction, else 0.
 #[cold]
 fn unmap_far(low: i32, high: i32, scaled: i32, delta: u16) -> (i32, i32)
     requires low_in { negsuc 32767 ≤ℤ low }

@@ -12,8 +12,8 @@ ghost use Rattle.sample_prediction.specs.Bounds.{AllWithin};
 use crate::predictor::MOST_COMPONENTS;
 use header_bits::params::{Params, WeightStart};
 
-/// Returns the initial weights of band `z`: `first` directional ones and those of `near` bands below
-/// (CCSDS 123.0-B-1, "Weight Initialization").
+/// Returns the initial weights of band `z`, at the front of the array: `first` directional ones, 0 in reduced mode and else 3,
+/// and those of `near` bands below, the lesser of `z` and P (CCSDS 123.0-B-1, "Weight Initialization").
 pub fn start_of(params: &Params, z: u32, first: usize, near: usize) -> [i32; MOST_COMPONENTS]
     requires lawful { IsLawful params.now }
     requires band { z < params.now.shape.bands }
@@ -72,8 +72,8 @@ fn entries_before(z: u32, first: usize, previous: u32) -> usize
     z * first + near * near.saturating_sub(1) / 2 + (z - near) * most
 }
 
-/// Returns the weights that entries of `q` bits stand for: the bits of an entry are the highest of a weight,
-/// and the bits below them are ones.
+/// Returns the weights that entries of `q` bits stand for: the bits of an entry are the highest of a weight; below them come a
+/// zero and then ones.
 fn table_start(omega: u32, q: u32, entries: &[i32]) -> [i32; MOST_COMPONENTS]
     requires omega_in { (4 ≤ omega) × (omega ≤ 19) }
     requires bits { InRange 3 (omega + 3) q }
@@ -101,7 +101,7 @@ fn table_weight(omega: u32, q: u32, entry: i32) -> i32
     entry * scale + ones_below(omega, q)
 }
 
-/// Returns the bits of a weight below those of an entry, which are all ones.
+/// Returns the bits of a weight below those of an entry: a zero and then ones, or none where the entry has all Ω + 3 bits.
 fn ones_below(omega: u32, q: u32) -> i32
     requires omega_in { omega ≤ 19 }
     requires bits { InRange 3 (omega + 3) q }

@@ -12,7 +12,8 @@ use crate::predictor::MOST_COMPONENTS;
 
 /// Returns the sum of the products of the weights in use with their differences.
 ///
-/// It loops over 8 or 18 components, a count known at compile time.
+/// `count` is at most 18, and the differences from index `count` on are 0. It loops over 0, 8 or 18 components, a count known at
+/// compile time.
 #[inline(always)]
 pub fn product_of(
     count: usize,
@@ -60,7 +61,8 @@ pub fn product_of_first<const N: usize>(
 /// Updates each weight by its scaled difference, with the sign of the error
 /// (CCSDS 123.0-B-1, "Weight Update").
 ///
-/// The differences are scaled up or down, all in the same way, in words of 32 bits.
+/// `count` is at most 18, and the differences from index `count` on are 0. All differences are scaled up or down in the same way,
+/// in words of 32 bits.
 #[inline(always)]
 pub fn update(
     count: usize,
@@ -95,7 +97,7 @@ pub fn update(
 
 /// Updates the first `N` weights. `sign_mask` is all ones where the error is negative, and 0 otherwise.
 ///
-/// A difference takes the error's sign without a branch, so that the compiler vectorizes the loop.
+/// The error's sign chooses between two weights without a branch, so that the compiler vectorizes the loop.
 #[inline(always)]
 fn update_first<const N: usize>(
     weights: &mut [i32; MOST_COMPONENTS],
@@ -191,7 +193,8 @@ fn halving(by: u32) -> Form
     }
 }
 
-/// Returns the first `N` weights after an error, by the form of the steps at the exponent.
+/// Updates the first `N` weights by the form of the steps at the exponent. `sign_mask` is all ones where the error is negative,
+/// else 0.
 #[inline(always)]
 pub fn update_by<const N: usize>(
     weights: &mut [i32; MOST_COMPONENTS],

@@ -11,7 +11,7 @@ use Rattle.std.proofs.Math.Pow.{pow_mono}
 use Rattle.cube_core.specs.Order.{from, upto}
 use Rattle.cube_core.proofs.Lists.{length-from}
 use Rattle.speed.specs.Bodies.{AreOfBits}
-use Rattle.speed.specs.Numbers.{first_state, next_state, state_behind, highest, residual_of, synthetic_residual, synthetic_residuals}
+use Rattle.speed.specs.Numbers.{first_state, next_state, state_after, highest, residual_of, synthetic_residual, synthetic_residuals}
 
 from_more : (a n : ℕ) → from a (suc n) ≡ from a n ++ (a + n) ∷ []
 from_more a zero = let e : a ≡ a + 0 = omega arith in ap (λ (k : ℕ). k ∷ []) e
@@ -32,13 +32,13 @@ pieces_more f n = ap (flat_map f) (upto_more n) ∙ flat_map-append f (upto n) (
 pub length-mapped : (f : ℕ → ℕ) (n : ℕ) → length (map f (upto n)) ≡ n
 length-mapped f n = length-map (upto n) f ∙ length-from 0 n
 
-pub none_behind : state_behind 0 ≡ first_state
-unfolding state_behind
-none_behind = refl
+pub state_after_none : state_after 0 ≡ first_state
+unfolding state_after
+state_after_none = refl
 
-pub one_behind : (n : ℕ) → state_behind (n + 1) ≡ next_state (state_behind n)
-unfolding state_behind
-one_behind n = rw add-one refl
+pub state_after_one : (n : ℕ) → state_after (n + 1) ≡ next_state (state_after n)
+unfolding state_after
+state_after_one n = rw add-one refl
 
 -- ---- a residual of two numbers
 
@@ -69,16 +69,16 @@ spoken_residual i word few lt apart =
     let low : few / 2 ^ (i / 4096 % 4 + 1) < 16 = halved few (i / 4096 % 4) lt in
     rw (high, ne_eqb (i / 4096 % 8) 7 apart) (low_bits_added (leading_zeros w16 word) (few / 2 ^ (i / 4096 % 4 + 1)) low)
 
-pub residual_is : (i word few : ℕ) → word ≡ highest 16 (state_behind (2 * i + 1)) → few ≡ highest 5 (state_behind (2 * i + 2))
+pub residual_is : (i word few : ℕ) → word ≡ highest 16 (state_after (2 * i + 1)) → few ≡ highest 5 (state_after (2 * i + 2))
     → residual_of i word few ≡ synthetic_residual i
 unfolding synthetic_residual
-residual_is i word few e f = ap (λ (n : ℕ). residual_of i n few) e ∙ ap (residual_of i (highest 16 (state_behind (2 * i + 1)))) f
+residual_is i word few e f = ap (λ (n : ℕ). residual_of i n few) e ∙ ap (residual_of i (highest 16 (state_after (2 * i + 1)))) f
 
 -- ---- residuals are of twelve bits
 
-state_in_word : (n : ℕ) → state_behind (n + 1) < 2 ^ 64
+state_in_word : (n : ℕ) → state_after (n + 1) < 2 ^ 64
 state_in_word n =
-    subst (λ (state : ℕ). state < 2 ^ 64) (sym (one_behind n)) (mod_below (6364136223846793005 * state_behind n + 1442695040888963407) (2 ^ 64) (lit< tt))
+    subst (λ (state : ℕ). state < 2 ^ 64) (sym (state_after_one n)) (mod_below (6364136223846793005 * state_after n + 1442695040888963407) (2 ^ 64) (lit< tt))
 
 below_twelve_bits : (b : Bool) (number : ℕ) → number < 2 ^ 12 → cond b 0 number < 2 ^ 12
 below_twelve_bits true number lt = lit< tt
@@ -87,13 +87,13 @@ below_twelve_bits false number lt = lt
 synthetic_below : (i : ℕ) → synthetic_residual i < 2 ^ 12
 unfolding synthetic_residual
 synthetic_below i =
-    let word : ℕ = highest 16 (state_behind (2 * i + 1)) in
-    let few : ℕ = highest 5 (state_behind (2 * i + 2)) in
+    let word : ℕ = highest 16 (state_after (2 * i + 1)) in
+    let few : ℕ = highest 5 (state_after (2 * i + 2)) in
     let last : 2 * i + 1 + 1 ≡ 2 * i + 2 = omega arith in
-    let state : state_behind (2 * i + 2) < 2 ^ 64 = subst (λ (n : ℕ). state_behind n < 2 ^ 64) last (state_in_word (2 * i + 1)) in
-    let drawn : highest 5 (state_behind (2 * i + 2)) < 32 = div_below (state_behind (2 * i + 2)) (2 ^ 59) 32 (pow_pos 59) state in
-    let high : leading_zeros w16 (highest 16 (state_behind (2 * i + 1))) ≤ 16 = leading_le 16 word in
-    let low : highest 5 (state_behind (2 * i + 2)) / 2 ^ (i / 4096 % 4 + 1) < 16 = halved few (i / 4096 % 4) drawn in
+    let state : state_after (2 * i + 2) < 2 ^ 64 = subst (λ (n : ℕ). state_after n < 2 ^ 64) last (state_in_word (2 * i + 1)) in
+    let drawn : highest 5 (state_after (2 * i + 2)) < 32 = div_below (state_after (2 * i + 2)) (2 ^ 59) 32 (pow_pos 59) state in
+    let high : leading_zeros w16 (highest 16 (state_after (2 * i + 1))) ≤ 16 = leading_le 16 word in
+    let low : highest 5 (state_after (2 * i + 2)) / 2 ^ (i / 4096 % 4 + 1) < 16 = halved few (i / 4096 % 4) drawn in
     below_twelve_bits (eqb (i / 4096 % 8) 7) (16 * leading_zeros w16 word + few / 2 ^ (i / 4096 % 4 + 1)) (omega (arith, high, low))
 
 pub residuals_below : (n : ℕ) → AreOfBits 12 (synthetic_residuals n)

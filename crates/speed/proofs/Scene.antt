@@ -16,8 +16,8 @@ use Rattle.cube_core.specs.Order.{IsPlaceOf, place_index, places}
 use Rattle.cube_core.proofs.Orders.{length-places, place_at_index}
 use Rattle.cube_core.proofs.Walks.{sequential_index}
 use Rattle.speed.specs.Images.{synthetic_offset, synthetic_samples, synthetic_image, offsets_of}
-use Rattle.speed.specs.Numbers.{first_state, next_state, state_behind, highest, mixed, checksum}
-use Rattle.speed.proofs.Draws.{none_behind, one_behind}
+use Rattle.speed.specs.Numbers.{first_state, next_state, state_after, highest, mixed, checksum}
+use Rattle.speed.proofs.Draws.{state_after_none, state_after_one}
 
 inside : (s : Sizes) (z y x : ℕ) → IsPlace s z y x → index_in s.columns s.rows z y x < sample_count s
 inside s z y x place = digits_lt (digits_lt place.band place.row) place.column
@@ -44,7 +44,7 @@ pub record IsBegun (s : Sizes) (k : SampleKind) (n : ℕ) (c : Image) (state : �
   pub kind : c.kind ≡ k
   pub whole : length c.samples ≡ sample_count s
   pub made : take n c.samples ≡ take n (synthetic_samples s k)
-  pub drawn : state ≡ state_behind n
+  pub drawn : state ≡ state_after n
 
 pub begun_first : (s : Sizes) (k : SampleKind) (c : Image) (state : ℕ) → c ≡ record { shape = s; kind = k; samples = replicate (sample_count s) (pos 0) }
     → state ≡ first_state → IsBegun s k 0 c state
@@ -54,7 +54,7 @@ begun_first s k c state e f =
       kind = ap (λ (i : Image). i.kind) e;
       whole = ap (λ (i : Image). length i.samples) e ∙ length-replicate (sample_count s) (pos 0);
       made = refl;
-      drawn = f ∙ sym none_behind;
+      drawn = f ∙ sym state_after_none;
     }
 
 pub begun_more : (s : Sizes) (k : SampleKind) (p : Place) (c : Image) (state : ℕ) (v : ℤ) → IsPlaceOf s p
@@ -66,8 +66,8 @@ begun_more s k p c state v place known value =
     let lt : index_in s.columns s.rows p.z p.y p.x < sample_count s = inside s p.z p.y p.x place in
     let at : index_in c.shape.columns c.shape.rows p.z p.y p.x ≡ index_in s.columns s.rows p.z p.y p.x =
     ap (λ (t : Sizes). index_in t.columns t.rows p.z p.y p.x) known.shape in
-    let drawn : next_state state ≡ state_behind (index_in s.columns s.rows p.z p.y p.x + 1) = ap next_state known.drawn ∙ sym (one_behind i) in
-    let noise : next_state state ≡ state_behind (place_index s Bsq p + 1) = drawn ∙ ap (λ (j : ℕ). state_behind (j + 1)) (sym (sequential_index s p)) in
+    let drawn : next_state state ≡ state_after (index_in s.columns s.rows p.z p.y p.x + 1) = ap next_state known.drawn ∙ sym (state_after_one i) in
+    let noise : next_state state ≡ state_after (place_index s Bsq p + 1) = drawn ∙ ap (λ (j : ℕ). state_after (j + 1)) (sym (sequential_index s p)) in
     let sample : v ≡ get_or (synthetic_samples s k) (index_in s.columns s.rows p.z p.y p.x) (pos 0) =
     value ∙ ap (λ (n : ℕ). sample_of k ((16 * p.z + 4 * p.y + 2 * p.x + highest 6 n) % 2 ^ k.bits)) noise ∙ sym (sample_there s k p (pos 0) place) in
     record {
@@ -125,13 +125,13 @@ checksum_more c z y x row cube place offsets =
     ∙ ap (λ (n : ℕ). checksum (take n (offsets_of c))) next
 
 -- a row is done, and so is a band
-pub row_behind : (c : Image) (z y : ℕ) → checksum_before c z y c.shape.columns ≡ checksum_before c z (y + 1) 0
-row_behind c z y =
+pub row_after : (c : Image) (z y : ℕ) → checksum_before c z y c.shape.columns ≡ checksum_before c z (y + 1) 0
+row_after c z y =
     let next : index_in c.shape.columns c.shape.rows z y c.shape.columns ≡ index_in c.shape.columns c.shape.rows z (y + 1) 0 = omega arith in
     ap (λ (n : ℕ). checksum (take n (offsets_of c))) next
 
-pub band_behind : (c : Image) (z : ℕ) → checksum_before c z c.shape.rows 0 ≡ checksum_before c (z + 1) 0 0
-band_behind c z =
+pub band_after : (c : Image) (z : ℕ) → checksum_before c z c.shape.rows 0 ≡ checksum_before c (z + 1) 0 0
+band_after c z =
     let next : index_in c.shape.columns c.shape.rows z c.shape.rows 0 ≡ index_in c.shape.columns c.shape.rows (z + 1) 0 0 = omega arith in
     ap (λ (n : ℕ). checksum (take n (offsets_of c))) next
 

@@ -11,8 +11,8 @@ Collects old new all list = IsTrue all → new.residuals.items ≡ old.residuals
 collects_none : (c : Collected) → Unit {0} → Collects c c true []
 collects_none c may all = sym (append-nil c.residuals.items)
 
-collects_behind : (old mid new : Collected) (all : Bool) (xs ys : List ℕ) → Collects old mid true xs → Collects mid new all ys → Collects old new all (xs ++ ys)
-collects_behind old mid new all xs ys a b h = b h ∙ ap (λ (ns : List ℕ). ns ++ ys) (a refl) ∙ append_assoc old.residuals.items xs ys
+collects_append : (old mid new : Collected) (all : Bool) (xs ys : List ℕ) → Collects old mid true xs → Collects mid new all ys → Collects old new all (xs ++ ys)
+collects_append old mid new all xs ys a b h = b h ∙ ap (λ (ns : List ℕ). ns ++ ys) (a refl) ∙ append_assoc old.residuals.items xs ys
 
 collects_cut : (old new : Collected) (xs ys : List ℕ) → Collects old new false xs → Collects old new false (xs ++ ys)
 collects_cut old new xs ys a h = absurd (cc)
@@ -22,6 +22,6 @@ collectings_are = record {
   less = λ c xs ys may. tt;
   more = λ old new xs ys a may. tt;
   none = collects_none;
-  behind = collects_behind;
+  append = collects_append;
   cut = collects_cut;
 }

@@ -7,7 +7,7 @@ use Rattle.cube_core.specs.declared.layout.RawOrder.{RawOrder}
 use Rattle.speed.specs.declared.cube.Format.{Format}
 use Rattle.speed.specs.declared.cube.Format.TheVariants.{Little, Big, Byte}
 use Rattle.cube_core.specs.Order.{upto}
-use Rattle.speed.specs.Numbers.{state_behind, highest}
+use Rattle.speed.specs.Numbers.{state_after, highest}
 
 abbrev pub format_name : Format → List ℕ
 format_name Little = codes "little"
@@ -32,4 +32,4 @@ number_bytes Byte number = number ∷ []
 
 -- the bytes of so many numbers that are drawn
 abbrev pub synthetic_bytes : Format → ℕ → List ℕ
-synthetic_bytes format n = flat_map (λ i. number_bytes format (highest (format_bits format) (state_behind (i + 1)))) (upto n)
+synthetic_bytes format n = flat_map (λ i. number_bytes format (highest (format_bits format) (state_after (i + 1)))) (upto n)

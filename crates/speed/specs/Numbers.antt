@@ -12,9 +12,9 @@ abbrev pub next_state : ℕ → ℕ
 next_state state = (6364136223846793005 * state + 1442695040888963407) % 2 ^ 64
 
 -- the state after so many numbers
-unfoldable pub state_behind : ℕ → ℕ
-state_behind zero = first_state
-state_behind (suc n) = next_state (state_behind n)
+unfoldable pub state_after : ℕ → ℕ
+state_after zero = first_state
+state_after (suc n) = next_state (state_after n)
 
 -- so many of the highest bits of a state
 abbrev pub highest : ℕ → ℕ → ℕ
@@ -28,7 +28,7 @@ residual_of i word few =
 
 -- two numbers are drawn for each residual
 unfoldable pub synthetic_residual : ℕ → ℕ
-synthetic_residual i = residual_of i (highest 16 (state_behind (2 * i + 1))) (highest 5 (state_behind (2 * i + 2)))
+synthetic_residual i = residual_of i (highest 16 (state_after (2 * i + 1))) (highest 5 (state_after (2 * i + 2)))
 
 -- so many synthetic residuals
 abbrev pub synthetic_residuals : ℕ → List ℕ
@@ -36,7 +36,7 @@ synthetic_residuals n = map synthetic_residual (upto n)
 
 -- the i-th of signed numbers of 14 bits
 unfoldable pub synthetic_weight : ℕ → ℤ
-synthetic_weight i = pos (highest 14 (state_behind (i + 1))) -ℤ pos 8192
+synthetic_weight i = pos (highest 14 (state_after (i + 1))) -ℤ pos 8192
 
 -- so many signed numbers of 14 bits
 abbrev pub synthetic_weights : ℕ → List ℤ

@@ -109,7 +109,7 @@ fn encoded(alloc: Global, params: &Params, numbers: &[u16]) -> Result<Vec<u8>, F
     let mut blocks = BlockWriter::new(params);
     let mut writer = BitWriter::new(alloc);
     for number in numbers {
-        // None is as great, as `put` asks.
+        // `put` requires a number below 2^D; all are, so this never ends the loop.
         if u32::from(*number) >= 1 << bits {
             break;
         }
@@ -123,7 +123,7 @@ fn encoded(alloc: Global, params: &Params, numbers: &[u16]) -> Result<Vec<u8>, F
 fn decode(report: &Report, name: &str, params: &Params, body: &[u8]) -> Result<()>
     requires { AreForBlocks params.now }
 {
-    // The reader asks for so few bytes.
+    // A reader takes at most 2^60 bytes; a body is far shorter than 2^40.
     let body = &body[..body.len().min(1 << 40)];
     let count = params.shape.sample_count();
     let start = report.start()?;

@@ -158,7 +158,7 @@ fn raw_bytes(alloc: Global, format: Format, count: u64) -> Result<Vec<u8>, Alloc
     Ok(bytes)
 }
 
-/// The checksum of the offsets of a cube's samples from the least one.
+/// The checksum of the offsets of a cube's samples.
 pub fn sum_of_cube(cube: &Cube) -> u64
     ensures { result ≡ checksum (offsets_of cube.now) }
 {

@@ -172,7 +172,7 @@ fn receive_in_runs(receiver: LaneReceiver, count: usize, run: usize) -> (LaneRec
     let mut refused = 0;
     while left > 0 && refused < MOST_REFUSED {
         let taken = receiver.recv_run(&mut room[..run]);
-        sum = sum_behind(sum, &room[..taken]);
+        sum = sum_after(sum, &room[..taken]);
         left = left.saturating_sub(taken);
         if taken == 0 {
             refused += 1;
@@ -183,7 +183,7 @@ fn receive_in_runs(receiver: LaneReceiver, count: usize, run: usize) -> (LaneRec
 }
 
 /// Returns a checksum continued with more numbers.
-fn sum_behind(sum: u64, numbers: &[u16]) -> u64
+fn sum_after(sum: u64, numbers: &[u16]) -> u64
     ensures { result ≡ fold mixed sum numbers.now }
 {
     let mut all = sum;

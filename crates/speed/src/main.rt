@@ -1,9 +1,9 @@
 //! The benchmark program: how fast each part of the coder processes samples.
 //!
-//! `speed SUBJECT` prints a line for each measured loop: its name, how many samples it processed in
-//! how many nanoseconds, and a checksum of its results. Without a subject all loops process little
-//! data, and it prints only names and checksums. The project in `bench/` prints the same for plain
-//! Rust, and `bench/compare` compares the two.
+//! `speed SUBJECT` prints a line for each measured loop in each of five rounds: its name, how many
+//! samples it processed in how many nanoseconds, and a checksum of its results. Without a subject
+//! all loops process little data, and it prints only names and checksums. The project in `bench/`
+//! prints the same for plain Rust, but for the pipeline, and `bench/compare` compares the two.
 #![tactic(auto)]
 
 mod block_coder;

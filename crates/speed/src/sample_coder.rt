@@ -75,7 +75,7 @@ fn encoded(alloc: Global, params: &Params, numbers: &[u16]) -> Result<Vec<u8>, F
     let mut stats = Stats::new(alloc, params)?;
     let mut writer = BitWriter::new(alloc);
     for (t, number) in numbers.iter().enumerate() {
-        // None is greater, as `put` asks.
+        // `put` requires a number below 2^D; all are, so this never ends the loop.
         if *number > MOST {
             break;
         }
@@ -89,7 +89,7 @@ fn decode(report: &Report, params: &Params, count: u64, body: &[u8]) -> Result<(
     requires lawful { AreForSamples params.now }
     requires bands { 1 ≤ params.now.shape.bands }
 {
-    // The reader asks for so few bytes.
+    // A reader takes at most 2^60 bytes; a body is far shorter than 2^40.
     let body = &body[..body.len().min(1 << 40)];
     let start = report.start()?;
     let mut stats = Stats::new(report.alloc(), params)?;

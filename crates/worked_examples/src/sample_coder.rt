@@ -217,7 +217,7 @@ fn is_refused(rt: &impl Abort, alloc: Global, s: Settings, bytes: &[u8], fault: 
 /// In each row: what is refused, dynamic range, body, and the fault of its second number.
 const BAD_CODES: &str = "\
 00, then 00001: four zeros and a one spell 4, which two bits do not hold | 2 | 02 | BadCode 1
-00, then 0000000011: 3 behind an escape that it does not need | 2 | 00 30 | BadCode 1
+00, then 0000000011: 3 after an escape that it does not need | 2 | 00 30 | BadCode 1
 144, then eight zeros and 3 in eight bits | 8 | 90 00 03 | BadCode 1
 144, and then seven of the eight zeros of an escape | 8 | 90 | Truncated 8";
 

@@ -34,8 +34,8 @@ pub fn second_band_predicted_from_first()
     ensures { file (one_below 1 1 2) (200 ∷ 201 ∷ []) ≡ bytes 21 0x00000100010002110000080006A092590082269002 }
 {}
 
-/// A weight that a step would take below the least stays there.
-pub fn weights_clipped_from_below()
+/// A step at an exponent of 0, rounded down.
+pub fn step_rounded_down()
     ensures { file (coarse_steps 1 3 2 (negsuc 3)) (100 ∷ 102 ∷ 110 ∷ 100 ∷ 100 ∷ 105 ∷ []) ≡ bytes 24 0x00000100030002110000080006A0022200822637B7805C00 }
 {}
 
@@ -174,8 +174,8 @@ pub fn error_of_zero_counts_as_positive()
     ensures { file (coarse_steps 1 3 2 (negsuc 5)) (255 ∷ 225 ∷ 0 ∷ 0 ∷ 0 ∷ 0 ∷ []) ≡ bytes 28 0x00000100030002110000080006A00200008226FE1C0003FFF00001FE }
 {}
 
-/// The greatest weight is one nearer to zero than the least.
-pub fn greatest_weight()
+/// A step that would take a weight below the least leaves it at the least.
+pub fn weight_stops_at_the_least()
     ensures { file (coarse_steps 1 3 2 (negsuc 5)) (156 ∷ 184 ∷ 198 ∷ 194 ∷ 205 ∷ 151 ∷ []) ≡ bytes 25 0x00000100030002110000080006A002000082263803DB4C1730 }
 {}
 
@@ -185,8 +185,8 @@ pub fn greatest_prediction()
         ≡ bytes 29 0x00000100030002110000080006A00200008226610000FF3B72400004A8 }
 {}
 
-/// The exponent of the weight steps grows from the second row on.
-pub fn exponent_grows_from_the_second_row()
+/// The exponent of the weight steps is counted from the second row.
+pub fn exponent_is_counted_from_the_second_row()
     ensures { file growing_steps (174 ∷ 86 ∷ 0 ∷ 255 ∷ 112 ∷ 156 ∷ 0 ∷ 0 ∷ 255 ∷ 255 ∷ 0 ∷ 255 ∷ 255 ∷ 255 ∷ 255 ∷ 0 ∷ 255 ∷ 106 ∷ 0 ∷ 0 ∷ 0 ∷ 237 ∷ 255 ∷ 81 ∷ 154 ∷ 255 ∷ 255 ∷ 255 ∷ 97 ∷ 82 ∷ 255 ∷ 255 ∷ 215 ∷ 144 ∷ 0 ∷ 247 ∷ 255 ∷ 255 ∷ 216 ∷ 255 ∷ 255 ∷ 255 ∷ 130 ∷ 255 ∷ 255 ∷ 255 ∷ 255 ∷ 255 ∷ []) ≡ bytes 73 0x00000800030002110000080006A0000F0082265C0000A9360FE4F571FE01847F81007F1147F8100AB007F1FE94051270000FF81003E36C081A0A03FC8803FE7809F00843FC026A68FE }
 {}
 

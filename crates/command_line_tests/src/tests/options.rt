@@ -1,4 +1,4 @@
-//! Tests of what each option does.
+//! Tests of what each option does, but for `--restricted`, which `tests/options.py` tests.
 
 use super::support::{IMAGE, compressed, compression, expansion, image_with, parsed, told};
 use crate::tests::checks::same;

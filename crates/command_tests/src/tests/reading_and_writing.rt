@@ -69,7 +69,7 @@ fn what_a_small_sink_took_is_reported(rt: HostRuntime) -> Result<(), Fail> {
     Ok(())
 }
 
-/// The least number of bytes that is requested of a source at once.
+/// The least number of bytes by which the buffer grows.
 const PIECE: usize = 65_536;
 
 /// A source of `left` bytes, which returns as many in a call as there is room for. It records whether it was ever

@@ -6,7 +6,7 @@ use header_bits::bit_writer::BitWriter;
 use std::process::Abort;
 
 #[test]
-fn a_word_behind_one_bit(rt: HostRuntime) {
+fn a_word_after_one_bit(rt: HostRuntime) {
     let mut writer = BitWriter::new(rt.alloc());
     assert!(rt; writer.push(1, 1).is_ok());
     assert!(rt; writer.push(u64::MAX, 64).is_ok());

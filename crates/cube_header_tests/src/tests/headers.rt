@@ -47,7 +47,7 @@ fn one_sample_is_written(rt: HostRuntime) {
 }
 
 /// Returns a byte of ones, followed by the header.
-fn behind_ones(rt: &impl Abort, alloc: Global) -> Vec<u8> {
+fn after_ones(rt: &impl Abort, alloc: Global) -> Vec<u8> {
     let params = one_sample(rt);
     let mut writer = BitWriter::new(alloc);
     writer.push(0xFF, 8).expect(rt, "memory");
@@ -57,8 +57,8 @@ fn behind_ones(rt: &impl Abort, alloc: Global) -> Vec<u8> {
 }
 
 #[test]
-fn a_header_is_put_behind_other_bits(rt: HostRuntime) {
-    let bytes = behind_ones(&rt, rt.alloc());
+fn a_header_is_put_after_other_bits(rt: HostRuntime) {
+    let bytes = after_ones(&rt, rt.alloc());
     same(
         &rt,
         bytes.as_slice().split_first(),

@@ -21,7 +21,7 @@ pub fn as_many_bits_as_samples()
 {}
 
 /// The greatest sizes, and nothing after the header.
-pub fn nothing_behind_the_header()
+pub fn nothing_after_the_header()
     ensures samples { test 19 0x00000000000000110000080002A09259008226 ≡ Err (Truncated 152) }
     ensures blocks { test 19 0x000000000000001100000C0002A09259000001 ≡ Err (Truncated 152) }
 {}
@@ -32,14 +32,14 @@ pub fn three_bits_for_each_segment()
     ensures too_few { least_test 160 (block 1 1040 1 false 4096) (bits_of 8 0) ≡ Err (Truncated 160) }
 {}
 
-/// Two equal samples' file, cut off after each of its bytes but the last.
-pub fn cut_off_behind_each_byte()
+/// Two equal samples' file, cut off before each of its bytes.
+pub fn cut_off_before_each_byte()
     ensures { tests_of_cuts (bytes 21 0x00000100020001110000080002A092590082269080) 0 21 ≡ replicate 19 (Err ShortHeader) ++ Err (Truncated 152)
         ∷ Err (Truncated 160) ∷ [] }
 {}
 
 /// The same for a block of one sample.
-pub fn block_cut_off_behind_each_byte()
+pub fn block_cut_off_before_each_byte()
     ensures header { tests_of_cuts (bytes 26 0x000001000100011100000C0002A09259000001A00FF000000000) 0 19 ≡ replicate 19 (Err ShortHeader) }
     ensures body { tests_of_cuts (bytes 26 0x000001000100011100000C0002A09259000001A00FF000000000) 19 7 ≡ Err (Truncated 152) ∷ Err (Truncated 160)
         ∷ Err (Truncated 168) ∷ Err (Truncated 176) ∷ Err (Truncated 184) ∷ Err (Truncated 192) ∷ Err (Truncated 200) ∷ [] }

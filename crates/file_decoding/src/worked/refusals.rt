@@ -9,11 +9,11 @@ ghost use Rattle.header_bits.specs.Parts.{fine};
 ghost use Rattle.file_decoding.specs.Rows.{test};
 
 /// The last bit of two equal samples' file is one.
-pub fn a_bit_behind_the_body_is_one()
+pub fn a_bit_after_the_body_is_one()
     ensures { test 21 0x00000100020001110000080002A092590082269081 ≡ Err BadFill }
 {}
 
-/// The second word has no bits.
+/// The second code word has no bits.
 pub fn last_byte_is_gone()
     ensures { test 20 0x00000100020001110000080002A0925900822690 ≡ Err (Truncated 160) }
 {}

@@ -13,15 +13,15 @@ pub fn table_of_no_weights()
     ensures { test 20 0x00000100010001110000080002A0925963822690 ≡ fine }
 {}
 
-/// The file of one weight, cut off after each of its bytes but the last.
-pub fn weights_cut_off_behind_each_byte()
+/// The file of one weight, cut off before each of its bytes.
+pub fn weights_cut_off_before_each_byte()
     ensures header { tests_of_cuts (file (with_weights 1 2 2 1 3 (negsuc 0 ∷ [])) (100 ∷ 110 ∷ 50 ∷ 60 ∷ [])) 0 20 ≡ replicate 20 (Err ShortHeader) }
     ensures body { tests_of_cuts (file (with_weights 1 2 2 1 3 (negsuc 0 ∷ [])) (100 ∷ 110 ∷ 50 ∷ 60 ∷ [])) 20 4 ≡ Err (Truncated 160) ∷ Err (Truncated 168)
         ∷ Err (Truncated 176) ∷ Err (Truncated 184) ∷ [] }
 {}
 
-/// The file of one constant, cut off after each of its bytes but the last.
-pub fn constants_cut_off_behind_each_byte()
+/// The file of one constant, cut off before each of its bytes.
+pub fn constants_cut_off_before_each_byte()
     ensures { tests_of_cuts (file (with_constants 1 2 1 (3 ∷ [])) (200 ∷ 200 ∷ [])) 0 22 ≡ replicate 20 (Err ShortHeader) ++ Err (Truncated 160)
         ∷ Err (Truncated 168) ∷ [] }
 {}

@@ -4,7 +4,7 @@
 ghost use Rattle.std.specs.Prelude.{◌≡◌, [], Ok, true, false};
 ghost use Rattle.cube_core.specs.declared.order.Order.TheVariants.{Bsq, Bi};
 ghost use Rattle.header_bits.specs.Header.{header_at, header_of};
-ghost use Rattle.header_bits.specs.Rows.{common, cube_a, fine_steps, deep, block, narrow_block, with_sample_coder, header};
+ghost use Rattle.header_bits.specs.Rows.{common, cube_a, coarse_steps, deep, block, narrow_block, with_sample_coder, header};
 
 /// A lone sample of eight bits.
 pub fn one_sample()
@@ -25,9 +25,9 @@ pub fn second_band_predicted_from_first()
 {}
 
 /// Four fractional bits of weights, and exponents of -4.
-pub fn fine_steps()
-    ensures written { header_of (fine_steps) ≡ header 0x00000100030002110000080006A00222008226 }
-    ensures read { header_at (header 0x00000100030002110000080006A00222008226) ≡ Ok (fine_steps, []) }
+pub fn coarse_steps()
+    ensures written { header_of (coarse_steps) ≡ header 0x00000100030002110000080006A00222008226 }
+    ensures read { header_at (header 0x00000100030002110000080006A00222008226) ≡ Ok (coarse_steps, []) }
 {}
 
 /// A lone signed sample of sixteen bits.
@@ -43,7 +43,7 @@ pub fn escape()
 {}
 
 /// The block-adaptive coder.
-pub fn uncoded_fill_block()
+pub fn filled_block()
     ensures written { header_of (block 1 1 1 false 1) ≡ header 0x000001000100011100000C0002A09259000001 }
     ensures read { header_at (header 0x000001000100011100000C0002A09259000001) ≡ Ok (block 1 1 1 false 1, []) }
 {}

@@ -99,7 +99,7 @@ pub fn weights_of_full_mode()
 {}
 
 /// The weight start is checked before the coder.
-pub fn weights_are_judged_before_the_coder()
+pub fn weights_are_checked_before_the_coder()
     ensures { params_fault (record (with_weights 1 2 2 1 3 []) { coder = Sample 7 6 1 (Constant 3) }) ≡ Err (Disagree rule.WeightTableLength) }
 {}
 

@@ -85,8 +85,8 @@ pub fn least_register()
     ensures read { header_at (header 0x00000100010001010000080002A5F259008226) ≡ Ok (with_register 37, []) }
 {}
 
-/// A counter that starts where it is rescaled, and one below.
-pub fn counter_starts_where_it_is_rescaled()
+/// γ₀ equal to γ*, so that the counter would start above 2^γ* - 1, where it is rescaled; and γ₀ one less.
+pub fn equal_counter_exponents()
     ensures refused { header_at (header 0x00000100020001110000080002A092590082C6) ≡ Err (Disagree rule.CounterOrder) }
     ensures read { header_at (header 0x00000100020001110000080002A092590082A6) ≡ Ok (with_sample_coder 16 6 5 3, []) }
 {}

@@ -9,7 +9,7 @@ ghost use Rattle.header_bits.specs.Bits.{bits_of};
 ghost use Rattle.header_bits.specs.Header.{header_at, header_of};
 ghost use Rattle.header_bits.specs.Rows.{narrow_block, with_weights, with_constants, header};
 
-/// Without previous bands a table has no entries, and no bytes.
+/// In reduced mode and without previous bands a table has no entries, and no bytes.
 pub fn table_of_no_weights()
     ensures written { header_of (with_weights 1 1 1 0 3 []) ≡ header 0x00000100010001110000080002A09259638226 }
     ensures read { header_at (header 0x00000100010001110000080002A09259638226) ≡ Ok (with_weights 1 1 1 0 3 [], []) }

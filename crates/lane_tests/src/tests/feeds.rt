@@ -94,7 +94,7 @@ fn an_empty_list_is_sent_whole(rt: HostRuntime) -> Result<(), Fail> {
 }
 
 #[test]
-fn stops_behind_a_run_of_two(rt: HostRuntime) -> Result<(), Fail> {
+fn stops_after_a_run_of_two(rt: HostRuntime) -> Result<(), Fail> {
     let (sender, mut receiver) = lane(rt.alloc(), 2)?;
     ends(
         &rt,
@@ -187,7 +187,7 @@ fn first_of_a_refused_run_goes_alone(rt: HostRuntime) -> Result<(), Fail> {
         (16, 17, 0),
         // so the next number is sent alone,
         (9, 10, 2),
-        // and then there are seven free slots for the seven numbers that are left.
+        // and then there are enough free slots for the seven numbers that are left.
         (10, 16, 2),
         (16, 17, 1),
     ];

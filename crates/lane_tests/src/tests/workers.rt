@@ -26,8 +26,8 @@ enum Outcome {
         sent: u64,
         received: u64,
     },
-    /// It was stopped, and `handed` numbers were passed on. `sent` and `joined` are how many it sent, as reported
-    /// before the join and by it.
+    /// It was stopped, and `handed` numbers were passed on. `sent` and `joined` are how many it sent, by `stopped_at` and by
+    /// `stop`.
     Stopped {
         handed: usize,
         sent: u64,

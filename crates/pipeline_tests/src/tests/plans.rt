@@ -20,7 +20,7 @@ fn refusal(
 
 /// Checks that predictors are tested before slots, and slots before the deal.
 #[test]
-fn numbers_are_judged_in_order(rt: HostRuntime) {
+fn numbers_are_checked_in_order(rt: HostRuntime) {
     let none = range(Field::Predictors, 0);
     same(&rt, refusal(&rt, rt.alloc(), 0, &[0, 2], 0), none);
     let many = range(Field::Predictors, 65);
@@ -35,7 +35,7 @@ fn numbers_are_judged_in_order(rt: HostRuntime) {
 
 /// Checks that the first wrong entry of a deal is refused before the deal's length.
 #[test]
-fn entries_are_judged_before_the_length(rt: HostRuntime) {
+fn entries_are_checked_before_the_length(rt: HostRuntime) {
     same(&rt, refusal(&rt, rt.alloc(), 2, &[0, 2], 1), band(1));
     same(&rt, refusal(&rt, rt.alloc(), 2, &[0], 1), band(1));
     same(&rt, refusal(&rt, rt.alloc(), 2, &[], 1), band(0));

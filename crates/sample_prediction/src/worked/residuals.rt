@@ -41,8 +41,8 @@ pub fn four_bits()
     ensures { residuals common (record { shape = sizes 1 1 1; kind = unsigned 4; samples = pos 9 ∷ [] }) ≡ 2 ∷ [] }
 {}
 
-/// A step at an exponent of 0, and a weight that a step takes below its least.
-pub fn weights_clipped_from_below()
+/// A step at an exponent of 0, rounded down: the weight goes from 14 to 10.
+pub fn step_rounded_down()
     ensures { residuals (coarse_steps (negsuc 3)) (cube 1 3 2 (100 ∷ 102 ∷ 110 ∷ 100 ∷ 100 ∷ 105 ∷ [])) ≡ 55 ∷ 3 ∷ 15 ∷ 0 ∷ 3 ∷ 0 ∷ [] }
 {}
 

@@ -15,13 +15,13 @@ pub fn weights_start_at_the_second_place()
     ensures { residuals (record coarse { previous = 2 }) (cube 1 2 3 (255 ∷ 0 ∷ 232 ∷ 255 ∷ 0 ∷ 11 ∷ [])) ≡ 254 ∷ 255 ∷ 23 ∷ 255 ∷ 255 ∷ 11 ∷ [] }
 {}
 
-/// An error of 0 counts as positive: it moves the weights upwards.
+/// An error of 0 counts as positive: the weight moves in the direction of the difference.
 pub fn error_of_zero_counts_as_positive()
     ensures { residuals (coarse_steps (negsuc 5)) (cube 1 3 2 (255 ∷ 225 ∷ 0 ∷ 0 ∷ 0 ∷ 0 ∷ [])) ≡ 254 ∷ 30 ∷ 255 ∷ 255 ∷ 0 ∷ 255 ∷ [] }
 {}
 
-/// The greatest weight is one nearer to 0 than the least.
-pub fn greatest_weight_is_one_less()
+/// A step that would take a weight below the least, here -64, leaves it at the least.
+pub fn weight_stops_at_the_least()
     ensures { residuals (coarse_steps (negsuc 5)) (cube 1 3 2 (156 ∷ 184 ∷ 198 ∷ 194 ∷ 205 ∷ 151 ∷ [])) ≡ 56 ∷ 55 ∷ 27 ∷ 76 ∷ 27 ∷ 3 ∷ [] }
 {}
 
@@ -31,14 +31,14 @@ pub fn greatest_scaled_prediction_is_odd()
 {}
 
 /// The exponent of the steps is counted from the second row.
-pub fn exponent_grows_from_the_second_row()
+pub fn exponent_is_counted_from_the_second_row()
     ensures { residuals growing_steps (cube 8 3 2 (174 ∷ 86 ∷ 0 ∷ 255 ∷ 112 ∷ 156 ∷ 0 ∷ 0 ∷ 255 ∷ 255 ∷ 0 ∷ 255 ∷ 255 ∷ 255 ∷ 255 ∷ 0 ∷ 255 ∷ 106 ∷ 0 ∷ 0
         ∷ 0 ∷ 237 ∷ 255 ∷ 81 ∷ 154 ∷ 255 ∷ 255 ∷ 255 ∷ 97 ∷ 82 ∷ 255 ∷ 255 ∷ 215 ∷ 144 ∷ 0 ∷ 247 ∷ 255 ∷ 255 ∷ 216 ∷ 255 ∷ 255 ∷ 255 ∷ 130 ∷ 255 ∷ 255 ∷ 255
         ∷ 255 ∷ 255 ∷ [])) ≡ 92 ∷ 169 ∷ 172 ∷ 255 ∷ 143 ∷ 87 ∷ 255 ∷ 0 ∷ 161 ∷ 255 ∷ 0 ∷ 0 ∷ 255 ∷ 197 ∷ 255 ∷ 0 ∷ 0 ∷ 149 ∷ 0 ∷ 255 ∷ 255 ∷ 18 ∷ 0 ∷ 81
         ∷ 39 ∷ 255 ∷ 0 ∷ 0 ∷ 158 ∷ 173 ∷ 0 ∷ 0 ∷ 40 ∷ 144 ∷ 255 ∷ 8 ∷ 0 ∷ 255 ∷ 39 ∷ 0 ∷ 79 ∷ 0 ∷ 130 ∷ 255 ∷ 0 ∷ 141 ∷ 77 ∷ 255 ∷ [] }
 {}
 
-/// A weight table: the bits below those of an entry are ones.
+/// A weight table: below the bits of an entry come a zero and then ones.
 pub fn table_entry_of_three_bits()
     ensures { residuals (coarse_table 3 (negsuc 0)) (cube 1 2 2 (255 ∷ 242 ∷ 176 ∷ 255 ∷ [])) ≡ 254 ∷ 13 ∷ 79 ∷ 143 ∷ [] }
 {}

@@ -6,7 +6,7 @@ use Rattle.file_coding.specs.Ends.{MayCodeAll}
 use Rattle.coder_pipe.specs.Standings.{handed_of}
 use Rattle.coder_pipe.proofs.Taking.{ahead_none, ahead_more, owner_below, owner_there, fewer_taken, run_fits, may_take, place_left}
 use Rattle.coder_pipe.proofs.gather.next_of_row.Goals as goal
-use Rattle.coder_pipe.proofs.gather.next_of_row.Goals.{In-Some}
+use Rattle.coder_pipe.proofs.gather.next_of_row.Goals.{In-Some, In-Ok}
 use Rattle.coder_pipe.proofs.gather.next_of_row.Given.{Over}
 
 pub unreachable-requires : goal.unreachable-requires
@@ -48,39 +48,39 @@ next_of-requires-clause-range g c = λ f k e lt.
     let most = rw c.params.ensures at c.greatest-most.ensures in
     omega (arith, c.requires.lists.range c.in-Some.owner f (below g d) k e lt, most)
 
+module _ (g : Over) (c : In-Ok g) where
+  within : c.in-Ok.count ≤ length c.next_of.new.run
+  within = omega (arith, c.in-Ok.ensures.within.1, c.next_of.auto.run)
+
+  few : length (take c.in-Ok.count c.next_of.new.run) ≤ c.wanted_run-wanted.result
+  few = omega (arith, c.in-Ok.ensures.within.1, length-take c.in-Ok.count c.next_of.new.run, length-take c.wanted_run-wanted.result c.args.run.now)
+
 pub returns-in-Ok-clause-ahead : goal.returns-in-Ok-clause-ahead
 returns-in-Ok-clause-ahead g c =
-    let d = (goal.at.returns-in-Ok-clause-ahead g c).In-Some in
+    let all = goal.at.returns-in-Ok-clause-ahead g c in
+    let d = all.In-Some in
     let was = c.requires.woven in
     let run = c.next_of.new.run in
-    let count = c.in-Ok.count in
-    let within : count ≤ length run = omega (arith, c.in-Ok.ensures.within.1, c.next_of.auto.run) in
-    let few : length (take count run) ≤ c.wanted_run-wanted.result =
-    omega (arith, c.in-Ok.ensures.within.1, length-take count run, length-take c.wanted_run-wanted.result c.args.run.now) in
     let one = c.wanted_run-wanted.ensures.owned _ _ _ was.woven in
     let none = ahead_none _ _ _ _ _ was in
     let ahead =
-    ahead_more _ _ _ _ (handed_of c.next_of.new.stages.items) _ c.in-Some.owner [] (take count run) none
-    (λ i lt. rw append-nil (one i (omega (arith, lt, few)) ∙ sym (next g d))) (handed_within g d) c.in-Ok.ensures.ok in
-    rw (take-append-le count run (drop c.wanted_run-wanted.result c.args.run.now) within) ahead
+    ahead_more _ _ _ _ (handed_of c.next_of.new.stages.items) _ c.in-Some.owner [] (take c.in-Ok.count run) none
+    (λ i lt. rw append-nil (one i (omega (arith, lt, few g all.In-Ok)) ∙ sym (next g d))) (handed_within g d) c.in-Ok.ensures.ok in
+    rw (take-append-le c.in-Ok.count run (drop c.wanted_run-wanted.result c.args.run.now) (within g all.In-Ok)) ahead
 
 pub returns-in-Ok-clause-may : goal.returns-in-Ok-clause-may
 returns-in-Ok-clause-may g c =
-    let d = (goal.at.returns-in-Ok-clause-may g c).In-Some in
+    let all = goal.at.returns-in-Ok-clause-may g c in
     let was = c.requires.woven in
-    let run = c.next_of.new.run in
-    let count = c.in-Ok.count in
-    let within : count ≤ length run = omega (arith, c.in-Ok.ensures.within.1, c.next_of.auto.run) in
-    let few : length (take count run) ≤ c.wanted_run-wanted.result =
-    omega (arith, c.in-Ok.ensures.within.1, length-take count run, length-take c.wanted_run-wanted.result c.args.run.now) in
     let most = rw c.params.ensures at c.greatest-most.ensures in
     let one = c.wanted_run-wanted.ensures.owned _ _ _ was.woven in
     let fits =
     run_fits c.args.plan.now.params c.args.plan.now.deal was.numbers c.in-Some.owner c.wanted_run-wanted.result c.prove_is_plan.ensures.lawful.order
-    (next g d) one in
-    subst (MayCodeAll c.args.weaver.now.end) (sym (take-append-le count run (drop c.wanted_run-wanted.result c.args.run.now) within))
-    (may_take _ _ _ was.numbers (take count run) c.greatest-most.result was.woven c.prove_is_plan.ensures.lawful
-    (omega (arith, few, fits)) most c.in-Ok.ensures.most)
+    (next g all.In-Some) one in
+    subst (MayCodeAll c.args.weaver.now.end)
+    (sym (take-append-le c.in-Ok.count c.next_of.new.run (drop c.wanted_run-wanted.result c.args.run.now) (within g all.In-Ok)))
+    (may_take _ _ _ was.numbers (take c.in-Ok.count c.next_of.new.run) c.greatest-most.result was.woven c.prove_is_plan.ensures.lawful
+    (omega (arith, few g all.In-Ok, fits)) most c.in-Ok.ensures.most)
 
 pub returns-in-Err-clause-stopped : goal.returns-in-Err-clause-stopped
 returns-in-Err-clause-stopped g c =

@@ -12,7 +12,7 @@ use Rattle.cube_core.proofs.Lists.{none_first, each_below}
 use Rattle.cube_core.proofs.Orders.{length-places}
 use Rattle.predict_core.proofs.Walking.{all_places, gone_count, next_place, on_walk_first}
 use Rattle.file_decoding.specs.Decoding.{MayAskEach}
-use Rattle.file_decoding.specs.Files.{behind_body}
+use Rattle.file_decoding.specs.Files.{after_body}
 use Rattle.file_decoding.specs.Tiles.{band_in, time_in}
 use Rattle.file_decoding.proofs.TileWalk.{walked_more, walked_whole, fits, come, may_read}
 use Rattle.file_decoding.proofs.decode.take_cube.Goals as goal
@@ -115,7 +115,7 @@ returns-in_err-read-clause-refused c =
     let known = c.loop-place.invariant in
     let got = c.in_err-read.ensures in
     let bad = got.given (may d _ (got.long ∙ long d)) in
-    let body : behind_body c.args.reader.now.count c.args.params.now c.args.reader.now.left ≡ Err c.in_err-read.field-0.0 =
+    let body : after_body c.args.reader.now.count c.args.params.now c.args.reader.now.left ≡ Err c.in_err-read.field-0.0 =
     rw (known.count, ← known.walked.text) at bad in
     let told = err_from_is_err_and c.from_residual-in_err-read.result c.from_residual-in_err-read.ensures.1 in
     rw (told.1, told.2) (inr body)
@@ -151,9 +151,9 @@ loop-place-preserved c =
     let known = c.loop-place.invariant in
     let is = c.at-tile.ensures.tile.in-order in
     let count : length c.read.new.deltas ≡ c.at-tile.result.columns * c.at-tile.result.bands = c.in_ok-read.ensures.long ∙ long d in
-    let behind = c.go_by.ensures ∙ ap (λ (n : ℕ). drop n c.loop-place.places) (c.count-in-Some.ensures ∙ sym count) in
+    let later = c.go_by.ensures ∙ ap (λ (n : ℕ). drop n c.loop-place.places) (c.count-in-Some.ensures ∙ sym count) in
     let filled = c.fill.ensures.filled c.args.params.now (come c.requires known.walked is (next d)) in
-    rw behind (record {
+    rw later (record {
       count = c.in_ok-read.ensures.count ∙ known.count;
       walked = walked_more c.requires known.walked is (next d) _ _ filled c.fill.ensures.alike
           (c.in_ok-read.ensures.given (may d _ count)) count c.fill.ensures.many;

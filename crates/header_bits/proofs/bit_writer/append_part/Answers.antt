@@ -2,7 +2,7 @@ use Rattle.std.proofs.Common.{arith, ap, ◌∙◌, ◌++◌, ◌/◌, take, Lis
 use Rattle.header_bits.specs.Bits.{bits_of_bytes}
 use Rattle.header_bits.proofs.Bytes.{bits_of_bytes-append}
 use Rattle.header_bits.proofs.Words.{part_shifted}
-use Rattle.header_bits.proofs.Pushes.{nothing_behind}
+use Rattle.header_bits.proofs.Pushes.{nothing_after}
 use Rattle.header_bits.proofs.bit_writer.append_part.Goals as goal
 
 pub returns-then-held-gt0 : goal.returns-then-held-gt0
@@ -13,4 +13,4 @@ returns-then-held-gt0 c =
     ∙ part_shifted _ _ c.requires.held c.requires.whole)
 
 pub returns-else-held-gt0 : goal.returns-else-held-gt0
-returns-else-held-gt0 c = nothing_behind c.args.bytes.now.items c.args.held c.args.part (omega arith)
+returns-else-held-gt0 c = nothing_after c.args.bytes.now.items c.args.held c.args.part (omega arith)

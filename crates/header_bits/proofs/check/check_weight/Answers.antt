@@ -1,6 +1,6 @@
 use Rattle.std.proofs.Common.{rules, SFits, w32, w64, to_z-of_z, pos, ◌-ℤ◌, ◌∙◌, arith}
 use Rattle.std.proofs.lemmas.Int.{ints}
-use Rattle.header_bits.proofs.Entries.{judged_above, judged_below}
+use Rattle.header_bits.proofs.Entries.{checked_above, checked_below}
 use Rattle.header_bits.proofs.check.check_weight.Goals.{then-bound-weight, else-bound-weight}
 use Rattle.header_bits.proofs.check.check_weight.Goals as goal
 
@@ -15,8 +15,8 @@ returns c =
     elim c.if-bound-weight.branch [
       | then-bound-weight w ↦ (let is = simp (to_z-of_z weight, to_z-of_z fits.0, to_z-of_z fits.2) at w.refuse_if-is in
           let test = simp (to_z-of_z weight, to_z-of_z fits.0, to_z-of_z fits.1) at w.if-bound-weight.true in
-          judged_above _ _ _ bound _ _ c.power_of_two-bound.ensures.value value test is refused)
+          checked_above _ _ _ bound _ _ c.power_of_two-bound.ensures.value value test is refused)
       | else-bound-weight w ↦ (let is = simp (to_z-of_z weight, to_z-of_z fits.0, to_z-of_z fits.1) at w.refuse_if-is in
           let test = simp (to_z-of_z weight, to_z-of_z fits.0, to_z-of_z fits.1) at w.if-bound-weight.false in
-          judged_below _ _ _ bound _ _ c.power_of_two-bound.ensures.value value test (is ∙ test) refused)
+          checked_below _ _ _ bound _ _ c.power_of_two-bound.ensures.value value test (is ∙ test) refused)
     ]

@@ -1,36 +1,34 @@
-use Rattle.std.proofs.Common.{◌≡◌, ◌+◌, ◌-◌, suc, true, false, ap, sym, ◌∙◌, refl, arith}
+use Rattle.std.proofs.Common.{◌≡◌, ◌+◌, ◌-◌, true, false, ap, sym, ◌∙◌, refl, arith}
 use Rattle.header_bits.specs.Layout.{values}
 use Rattle.header_bits.specs.TableParts.{number_fields, some_above}
-use Rattle.header_bits.proofs.TableNumbers.{number_next, number_enough, number_whole, number_rest, numbers_none}
+use Rattle.header_bits.proofs.TableNumbers.{number_taken, number_there, numbers_none}
 use Rattle.header_bits.proofs.Entries.{above_first, above_later, above_nothing}
 use Rattle.header_bits.proofs.constant_part.pass_constants.Goals as goal
 
 pub unwrap-constant-requires : goal.unwrap-constant-requires
 unwrap-constant-requires c =
-    c.take.ensures.enough.1 (number_enough (c.args.count - c.loop.counter) (c.args.count - (c.loop.counter + 1)) 4 _ (omega arith) c.loop.invariant.whole)
+    c.take.ensures.enough.1 (number_there c.args.count c.loop.counter 4 _ (omega (arith, c.loop-test.true)) c.loop.invariant.whole)
 
 pub returns-then-from-constant-clause-test : goal.returns-then-from-constant-clause-test
 returns-then-from-constant-clause-test c =
-    let left : c.args.count - c.loop.counter ≡ suc (c.args.count - (c.loop.counter + 1)) = omega (arith, c.loop-test.true) in
-    let below = rw c.unwrap-constant.ensures at c.take.ensures.below in
-    let taken = rw c.unwrap-constant.ensures at c.take.ensures.taken in
-    let next = number_next (c.args.count - c.loop.counter) (c.args.count - (c.loop.counter + 1)) 4 _ _ _ left below taken in
+    let next =
+    number_taken c.args.count c.loop.counter 4 _ _ _ (omega (arith, c.loop-test.true)) (rw c.unwrap-constant.ensures at c.take.ensures.below)
+    (rw c.unwrap-constant.ensures at c.take.ensures.taken) in
     let over = above_first _ _ (values (number_fields (c.args.count - (c.loop.counter + 1)) 4) c.take.new.self.left) (omega arith) in
     let found : some_above c.args.most (values (number_fields c.args.count 4) c.args.reader.now.left) ≡ true =
-    sym c.loop.invariant.above ∙ ap (some_above c.args.most) next ∙ over in
+    sym c.loop.invariant.above ∙ ap (some_above c.args.most) next.numbers ∙ over in
     rw found refl
 
 pub loop-preserved : goal.loop-preserved
 loop-preserved c =
-    let left : c.args.count - c.loop.counter ≡ suc (c.args.count - (c.loop.counter + 1)) = omega (arith, c.loop-test.true) in
-    let below = rw c.unwrap-constant.ensures at c.take.ensures.below in
-    let taken = rw c.unwrap-constant.ensures at c.take.ensures.taken in
-    let next = number_next (c.args.count - c.loop.counter) (c.args.count - (c.loop.counter + 1)) 4 _ _ _ left below taken in
+    let next =
+    number_taken c.args.count c.loop.counter 4 _ _ _ (omega (arith, c.loop-test.true)) (rw c.unwrap-constant.ensures at c.take.ensures.below)
+    (rw c.unwrap-constant.ensures at c.take.ensures.taken) in
     let later = above_later _ _ (values (number_fields (c.args.count - (c.loop.counter + 1)) 4) c.take.new.self.left) (omega arith) in
     record {
-      above = sym (ap (some_above c.args.most) next ∙ later) ∙ c.loop.invariant.above;
-      rest = number_rest (c.args.count - c.loop.counter) (c.args.count - (c.loop.counter + 1)) 4 _ _ _ left below taken ∙ c.loop.invariant.rest;
-      whole = number_whole (c.args.count - c.loop.counter) (c.args.count - (c.loop.counter + 1)) 4 _ _ _ left c.loop.invariant.whole taken;
+      above = sym (ap (some_above c.args.most) next.numbers ∙ later) ∙ c.loop.invariant.above;
+      rest = next.rest ∙ c.loop.invariant.rest;
+      whole = next.whole c.loop.invariant.whole;
     }
 
 pub returns-clause-test : goal.returns-clause-test

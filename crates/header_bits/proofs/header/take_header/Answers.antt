@@ -2,7 +2,7 @@ use Rattle.std.proofs.Common.{◌≡◌, ◌∙◌, Ok, Err, inl, inr, refl}
 use Rattle.std.proofs.lemmas.Result.{err_from_is_err_and}
 use Rattle.header_bits.specs.Header.{HeaderContents, header_contents, params_of, parts_at, header_at}
 use Rattle.header_bits.proofs.Headers.{header_refused, header_read, refused_spells_none}
-use Rattle.header_bits.proofs.HeaderTexts.{table_kept, left_within, left_behind, read_lawful}
+use Rattle.header_bits.proofs.HeaderTexts.{table_kept, left_within, left_after, read_lawful}
 use Rattle.header_bits.proofs.header.take_header.Goals as goal
 use Rattle.header_bits.proofs.header.take_header.Goals.{In_err-parts, In_ok-parts, In_ok-params}
 
@@ -49,7 +49,7 @@ overflow_sub-left c = rw (c.left.ensures, c.left-2.ensures) (left_within _ _ _ (
 
 pub returns-clause-takes : goal.returns-clause-takes
 returns-clause-takes c =
-    rw c.skip.ensures.left (left_behind _ _ _ _ (header (goal.at.returns-clause-takes c).In_ok-params) (rw (c.left.ensures, c.left-2.ensures) refl))
+    rw c.skip.ensures.left (left_after _ _ _ _ (header (goal.at.returns-clause-takes c).In_ok-params) (rw (c.left.ensures, c.left-2.ensures) refl))
 
 pub returns-clause-lawful : goal.returns-clause-lawful
 returns-clause-lawful c = read_lawful _ _ _ (header (goal.at.returns-clause-lawful c).In_ok-params)

@@ -2,7 +2,7 @@ use Rattle.std.proofs.Common.{◌≡◌, ◌+◌, refl, sym, eq-eqb, arith}
 use Rattle.std.proofs.lemmas.Bool.{ne_eqb}
 use Rattle.sample_adaptive.specs.Tracked.{statistics_of}
 use Rattle.sample_adaptive.proofs.PlacesRead.{ends}
-use Rattle.sample_adaptive.proofs.Running.{behind_first}
+use Rattle.sample_adaptive.proofs.Running.{after_first}
 use Rattle.sample_adaptive.proofs.Tracking.{settings_stay}
 use Rattle.sample_adaptive.proofs.column.take_column.Goals as goal
 
@@ -22,5 +22,5 @@ returns-clause-taken c = λ v same settings.
     let later = sym (ne_eqb c.args.t 0 c.if-t-eq0.false) in
     let rest = c.take_each-2.ensures.taken (record v { bands = statistics_of c.take_ready-done.new.bands }) c.args.z c.args.t c.take_ready-done.result refl
     later refl (settings_stay settings) in
-    rw (behind_first c.take_ready-done.new.numbers c.take_each-2.new.numbers c.take_ready-done.result e.within c.take_each-2.ensures.long)
-    ((e.taken v c.args.t (omega (arith, c.if-t-eq0.false)) same settings).behind _ _ _ _ (rw first rest))
+    rw (after_first c.take_ready-done.new.numbers c.take_each-2.new.numbers c.take_ready-done.result e.within c.take_each-2.ensures.long)
+    ((e.taken v c.args.t (omega (arith, c.if-t-eq0.false)) same settings).append _ _ _ _ (rw first rest))

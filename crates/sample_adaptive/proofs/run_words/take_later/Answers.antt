@@ -1,7 +1,7 @@
 use Rattle.std.proofs.Common.{◌≡◌, ◌+◌, ◌<◌, length, arith}
 use Rattle.std.proofs.lemmas.List.{get_or-set_same, length-set, set-set}
 use Rattle.sample_adaptive.specs.Taken.{of_band, with_band, no_statistics}
-use Rattle.sample_adaptive.proofs.Running.{behind_first}
+use Rattle.sample_adaptive.proofs.Running.{after_first}
 use Rattle.sample_adaptive.proofs.PlacesRead.{ends}
 use Rattle.sample_adaptive.proofs.Tracking.{settings_stay}
 use Rattle.sample_adaptive.proofs.run_words.take_later.Goals as goal
@@ -18,5 +18,5 @@ returns-clause-taken c = λ v z t k within settings own some.
     let there : z < length (with_band v z s).bands = omega (arith, within, length-set v.bands z s) in
     let band : of_band (with_band v z s).bands z ≡ s = get_or-set_same v.bands z s no_statistics within in
     let rest = c.take_rest.ensures.taken (with_band v z s) z t (k + c.take_ready-done.result) there (settings_stay settings) band (omega (arith, some)) in
-    rw (behind_first c.take_ready-done.new.numbers c.take_rest.new.numbers c.take_ready-done.result e.within c.take_rest.ensures.long)
-    ((e.taken v z t k within settings own some).behind _ _ _ _ (rw set-set at rest))
+    rw (after_first c.take_ready-done.new.numbers c.take_rest.new.numbers c.take_ready-done.result e.within c.take_rest.ensures.long)
+    ((e.taken v z t k within settings own some).append _ _ _ _ (rw set-set at rest))

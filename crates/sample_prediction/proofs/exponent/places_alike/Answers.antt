@@ -2,8 +2,8 @@ use Rattle.std.proofs.Common.{arith}
 use Rattle.sample_prediction.proofs.Intervals.{alike_in_first_row, alike_later}
 use Rattle.sample_prediction.proofs.exponent.places_alike.Goals as goal
 
-pub returns-then-t-behind-clause-alike : goal.returns-then-t-behind-clause-alike
-returns-then-t-behind-clause-alike c bits k l = alike_in_first_row _ _ bits _ k c.requires.lawful.order (omega (arith, l))
+pub returns-then-t-width-clause-alike : goal.returns-then-t-width-clause-alike
+returns-then-t-width-clause-alike c bits k l = alike_in_first_row _ _ bits _ k c.requires.lawful.order (omega (arith, l))
 
-pub returns-else-t-behind-clause-alike : goal.returns-else-t-behind-clause-alike
-returns-else-t-behind-clause-alike c bits k l = alike_later c.args.predictor.now c.args.columns bits c.args.t k (omega arith) (c.alike_after.ensures.alike k l)
+pub returns-else-t-width-clause-alike : goal.returns-else-t-width-clause-alike
+returns-else-t-width-clause-alike c bits k l = alike_later c.args.predictor.now c.args.columns bits c.args.t k (omega arith) (c.alike_after.ensures.alike k l)

@@ -2,19 +2,19 @@ use Rattle.std.proofs.Common.{◌≡◌, ◌+◌, ◌∷◌, ◌++◌, [], ℕ, 
 use Rattle.speed.specs.declared.cube.Format.{Format}
 use Rattle.speed.specs.declared.cube.Format.TheVariants.{Little, Big, Byte}
 use Rattle.speed.specs.Formats.{format_bits, number_bytes, synthetic_bytes}
-use Rattle.speed.specs.Numbers.{next_state, state_behind, highest}
-use Rattle.speed.proofs.Draws.{none_behind, one_behind, pieces_more}
+use Rattle.speed.specs.Numbers.{next_state, state_after, highest}
+use Rattle.speed.proofs.Draws.{state_after_none, state_after_one, pieces_more}
 use Rattle.speed.proofs.cube.raw_bytes.Goals as goal
 use Rattle.speed.proofs.cube.raw_bytes.Goals.{Joined-format, in-Little+in_ok-extend_from_slice-in-Little, in-Big+in_ok-extend_from_slice-in-Big}
 use Rattle.speed.proofs.cube.raw_bytes.Goals.{in-Byte+in_ok-push-in-Byte}
 
 pub loop-sample-init : goal.loop-sample-init
-loop-sample-init c = record { state = c.new-generator.ensures ∙ sym none_behind; value = c.new-bytes.ensures.items }
+loop-sample-init c = record { state = c.new-generator.ensures ∙ sym state_after_none; value = c.new-bytes.ensures.items }
 
-drawn : (c : Joined-format) → c.number-number.new.self ≡ state_behind (c.loop-sample._sample + 1)
-drawn c = c.number-number.ensures.state ∙ ap next_state c.loop-sample.invariant.state ∙ sym (one_behind c.loop-sample._sample)
+drawn : (c : Joined-format) → c.number-number.new.self ≡ state_after (c.loop-sample._sample + 1)
+drawn c = c.number-number.ensures.state ∙ ap next_state c.loop-sample.invariant.state ∙ sym (state_after_one c.loop-sample._sample)
 
-number_is : (c : Joined-format) → c.number-number.result ≡ highest (format_bits c.args.format) (state_behind (c.loop-sample._sample + 1))
+number_is : (c : Joined-format) → c.number-number.result ≡ highest (format_bits c.args.format) (state_after (c.loop-sample._sample + 1))
 number_is c = c.number-number.ensures.number ∙ ap (λ (n : ℕ). highest n c.number-number.new.self) c.bits.ensures.value
     ∙ ap (highest (format_bits c.args.format)) (drawn c)
 
@@ -41,5 +41,5 @@ loop-sample-preserved c = record {
   value = bytes_are c
       ∙ ap (λ (bytes : List ℕ). bytes ++ number_bytes c.args.format c.number-number.result) c.loop-sample.invariant.value
       ∙ ap (λ (n : ℕ). synthetic_bytes c.args.format c.loop-sample._sample ++ number_bytes c.args.format n) (number_is c)
-      ∙ sym (pieces_more (λ i. number_bytes c.args.format (highest (format_bits c.args.format) (state_behind (i + 1)))) c.loop-sample._sample);
+      ∙ sym (pieces_more (λ i. number_bytes c.args.format (highest (format_bits c.args.format) (state_after (i + 1)))) c.loop-sample._sample);
 }

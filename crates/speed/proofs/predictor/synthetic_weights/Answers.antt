@@ -1,14 +1,14 @@
 use Rattle.std.proofs.Common.{rules, SFits, w32, to_z-of_z, ◌≡◌, ◌+◌, ◌∷◌, ◌++◌, [], ℤ, ◌-ℤ◌, pos, List, sym, ap, ◌∙◌}
-use Rattle.speed.specs.Numbers.{next_state, state_behind, highest, synthetic_weight, synthetic_weights}
-use Rattle.speed.proofs.Draws.{one_behind, none_behind, mapped_more}
+use Rattle.speed.specs.Numbers.{next_state, state_after, highest, synthetic_weight, synthetic_weights}
+use Rattle.speed.proofs.Draws.{state_after_one, state_after_none, mapped_more}
 use Rattle.speed.proofs.predictor.synthetic_weights.Goals as goal
 use Rattle.speed.proofs.predictor.synthetic_weights.Goals.{In_ok-push}
 
 pub loop-i-init : goal.loop-i-init
-loop-i-init c = record { state = c.new-generator.ensures ∙ sym none_behind; value = c.new-weights.ensures.items }
+loop-i-init c = record { state = c.new-generator.ensures ∙ sym state_after_none; value = c.new-weights.ensures.items }
 
-state_is : (c : In_ok-push) → c.number.new.self ≡ state_behind (c.loop-i._i + 1)
-state_is c = c.number.ensures.state ∙ ap next_state c.loop-i.invariant.state ∙ sym (one_behind c.loop-i._i)
+state_is : (c : In_ok-push) → c.number.new.self ≡ state_after (c.loop-i._i + 1)
+state_is c = c.number.ensures.state ∙ ap next_state c.loop-i.invariant.state ∙ sym (state_after_one c.loop-i._i)
 
 weight_is : (c : In_ok-push) → c.from.result -ℤ pos 8192 ≡ synthetic_weight c.loop-i._i
 unfolding synthetic_weight

@@ -1,19 +1,10 @@
-use Rattle.std.proofs.Common.{ap, arith}
+use Rattle.std.proofs.Common.{refl, ap, arith}
 use Rattle.header_bits.specs.declared.params.Params.{Params}
-use Rattle.sample_adaptive.specs.Statistics.{constant_of}
+use Rattle.sample_adaptive.proofs.ForSamples.{with_constant}
 use Rattle.speed.proofs.sample_coder.params.Goals as goal
 
 pub returns-clause-lawful : goal.returns-clause-lawful
-unfolding constant_of
-returns-clause-lawful c = record {
-  coder = tt;
-  lawful = record {
-    bits = (omega arith, omega arith);
-    umax = (omega arith, omega arith);
-    gamma_star = (omega arith, omega arith);
-    gamma_zero = (omega arith, omega arith);
-    order = omega arith;
-    entries = tt;
-    constants = λ z lt. omega (arith, ap (λ (p : Params). p.kind.bits) c.plain.ensures);
-  };
-}
+returns-clause-lawful c =
+    let bits = ap (λ (p : Params). p.kind.bits) c.plain.ensures in
+    with_constant _ _ _ _ _ refl (omega (arith, bits), omega (arith, bits)) (omega arith, omega arith) (omega arith, omega arith) (omega arith, omega arith)
+    (omega arith) (omega (arith, bits))

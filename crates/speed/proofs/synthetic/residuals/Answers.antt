@@ -1,20 +1,20 @@
 use Rattle.std.proofs.Common.{◌≡◌, ◌+◌, ◌*◌, ◌∷◌, ◌++◌, [], ℕ, List, length, arith, sym, ap, subst, ◌∙◌}
 use Rattle.speed.specs.Bodies.{AreOfBits}
-use Rattle.speed.specs.Numbers.{next_state, state_behind, highest, synthetic_residual, synthetic_residuals}
-use Rattle.speed.proofs.Draws.{one_behind, none_behind, mapped_more, length-mapped, silent_residual, spoken_residual, residual_is, residuals_below}
+use Rattle.speed.specs.Numbers.{next_state, state_after, highest, synthetic_residual, synthetic_residuals}
+use Rattle.speed.proofs.Draws.{state_after_one, state_after_none, mapped_more, length-mapped, silent_residual, spoken_residual, residual_is, residuals_below}
 use Rattle.speed.proofs.synthetic.residuals.Goals as goal
 use Rattle.speed.proofs.synthetic.residuals.Goals.{In_ok-push, then-i-eq7, else-i-eq7}
 
 pub loop-i-init : goal.loop-i-init
-loop-i-init c = record { state = c.new-generator.ensures ∙ sym none_behind; value = c.new-residuals.ensures.items }
+loop-i-init c = record { state = c.new-generator.ensures ∙ sym state_after_none; value = c.new-residuals.ensures.items }
 
-word_state : (c : In_ok-push) → c.number-quotient.new.self ≡ state_behind (2 * c.loop-i.i + 1)
-word_state c = c.number-quotient.ensures.state ∙ ap next_state c.loop-i.invariant.state ∙ sym (one_behind (2 * c.loop-i.i))
+word_state : (c : In_ok-push) → c.number-quotient.new.self ≡ state_after (2 * c.loop-i.i + 1)
+word_state c = c.number-quotient.ensures.state ∙ ap next_state c.loop-i.invariant.state ∙ sym (state_after_one (2 * c.loop-i.i))
 
-few_state : (c : In_ok-push) → c.number.new.self ≡ state_behind (2 * c.loop-i.i + 2)
+few_state : (c : In_ok-push) → c.number.new.self ≡ state_after (2 * c.loop-i.i + 2)
 few_state c =
     let e : 2 * c.loop-i.i + 1 + 1 ≡ 2 * c.loop-i.i + 2 = omega arith in
-    c.number.ensures.state ∙ ap next_state (word_state c) ∙ sym (one_behind (2 * c.loop-i.i + 1)) ∙ ap state_behind e
+    c.number.ensures.state ∙ ap next_state (word_state c) ∙ sym (state_after_one (2 * c.loop-i.i + 1)) ∙ ap state_after e
 
 number_is : (c : In_ok-push) → c.if-i-eq7.push ≡ synthetic_residual c.loop-i.i
 number_is c = (elim c.if-i-eq7.branch [
@@ -28,7 +28,7 @@ pub loop-i-preserved : goal.loop-i-preserved
 loop-i-preserved c =
     let two : 2 * c.loop-i.i + 2 ≡ 2 * (c.loop-i.i + 1) = omega arith in
     record {
-      state = few_state c ∙ ap state_behind two;
+      state = few_state c ∙ ap state_after two;
       value = c.in_ok-push.ensures.items
           ∙ ap (λ (ns : List ℕ). ns ++ c.if-i-eq7.push ∷ []) c.loop-i.invariant.value
           ∙ ap (λ (n : ℕ). synthetic_residuals c.loop-i.i ++ n ∷ []) (number_is c)

@@ -1,5 +1,5 @@
 use Rattle.std.proofs.Common.{◌<◌, ◌-◌, ◌+◌, arith, ap, drop, ◌∙◌, ◌≡◌}
-use Rattle.cube_core.proofs.Walks.{at_most_left, walk_on, rest_behind}
+use Rattle.cube_core.proofs.Walks.{at_most_left, walk_on, rest_after}
 use Rattle.cube_core.proofs.cursor.Places.go_by.Goals as goal
 
 pub loop-rest-init : goal.loop-rest-init
@@ -19,7 +19,7 @@ loop-rest-preserved-then-self-gt0 c =
       walk_on walk.shape walk.order walk.spot _ _ walk.left on kept.0 (omega (arith, kept.1)) (c.spot_ahead-on.ensures.spot, c.spot_ahead-on.ensures.index)
           (λ some. (c.spot_after-self-inside.ensures.spot, c.spot_after-self-inside.ensures.next)),
       omega (arith, kept.1),
-      rest_behind walk.shape walk.order walk.left _ (on + 1) kept.0.few kept.1 (omega arith) ∙ kept.2,
+      rest_after walk.shape walk.order walk.left _ (on + 1) kept.0.few kept.1 (omega arith) ∙ kept.2,
     )
 
 pub loop-rest-preserved : goal.loop-rest-preserved
@@ -31,7 +31,7 @@ loop-rest-preserved c =
       walk_on walk.shape walk.order walk.spot _ walk.spot walk.left on kept.0
           (omega (arith, kept.1)) (c.spot_ahead-on.ensures.spot, c.spot_ahead-on.ensures.index) (λ some. elim (none some) [ ]),
       omega (arith, kept.1),
-      rest_behind walk.shape walk.order walk.left _ (on + 1) kept.0.few kept.1 (omega arith) ∙ kept.2,
+      rest_after walk.shape walk.order walk.left _ (on + 1) kept.0.few kept.1 (omega arith) ∙ kept.2,
     )
 
 pub returns : goal.returns

@@ -24,7 +24,7 @@ loop-first-preserved g c =
     let some = λ (h : IsTrue true). told.ready (c.goes_on.ensures.open c.if-not-goes_on.false) in
     record {
       within = omega (arith, told.within, length-drop c.loop-first.first c.args.numbers.now);
-      sent = rw take-add (sendings_are.behind _ _ _ true _ _ c.loop-first.invariant.sent
+      sent = rw take-add (sendings_are.append _ _ _ true _ _ c.loop-first.invariant.sent
           (sent_some told.same (rw take_rest at told.taken) some (λ h. absurd (cc))));
     }
 

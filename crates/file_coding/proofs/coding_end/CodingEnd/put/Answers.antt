@@ -1,6 +1,6 @@
 use Rattle.std.proofs.Common.{ap₂, ◌≡◌, ◌+◌, ◌*◌, ◌∷◌, rules, refl, sym, ap, List, drop}
 use Rattle.cube_core.specs.declared.order.Place.{Place}
-use Rattle.file_coding.proofs.Runs.{rows_behind}
+use Rattle.file_coding.proofs.Runs.{rows_after}
 use Rattle.file_coding.proofs.Endings.{may_take, coded_more}
 use Rattle.file_coding.proofs.coding_end.CodingEnd.put.Goals as goal
 
@@ -16,4 +16,4 @@ returns-clause-coded c =
 pub invariant_of-self-2 : goal.invariant_of-self-2
 invariant_of-self-2 c =
     let moved : c.self.inside.places ≡ c.args.place ∷ c.next.new.self = search rules in
-    (c.self.invariant.0, λ by. rows_behind _ 1 _ _ (sym (ap (λ (qs : List Place). drop 1 qs) moved)) (c.self.invariant.1 by))
+    (c.self.invariant.0, λ by. rows_after _ 1 _ _ (sym (ap (λ (qs : List Place). drop 1 qs) moved)) (c.self.invariant.1 by))

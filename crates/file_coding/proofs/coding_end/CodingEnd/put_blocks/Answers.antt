@@ -1,16 +1,16 @@
 use Rattle.std.proofs.Common.{refl, arith}
 use Rattle.std.proofs.lemmas.List.{take_all}
-use Rattle.file_coding.proofs.Runs.{rows_behind, may_put_blocks, coded_blocks}
+use Rattle.file_coding.proofs.Runs.{rows_after, may_put_blocks, coded_blocks}
 use Rattle.file_coding.proofs.coding_end.CodingEnd.put_blocks.Goals as goal
 
 pub put_blocks-taken-requires : goal.put_blocks-taken-requires
 put_blocks-taken-requires c = may_put_blocks _ _ (rw (← c.self.view_is) at c.requires.may) (rw (← c.self.view_is) at c.requires.blocks)
 
 pub invariant_of-self : goal.invariant_of-self
-invariant_of-self c = (c.self.invariant.0, λ by. rows_behind _ _ _ _ c.go_by.ensures (c.self.invariant.1 by))
+invariant_of-self c = (c.self.invariant.0, λ by. rows_after _ _ _ _ c.go_by.ensures (c.self.invariant.1 by))
 
 pub invariant_of-self-2 : goal.invariant_of-self-2
-invariant_of-self-2 c = (c.self.invariant.0, λ by. rows_behind _ _ _ _ c.go_by.ensures (c.self.invariant.1 by))
+invariant_of-self-2 c = (c.self.invariant.0, λ by. rows_after _ _ _ _ c.go_by.ensures (c.self.invariant.1 by))
 
 pub returns-then-taken-residuals-clause-some : goal.returns-then-taken-residuals-clause-some
 returns-then-taken-residuals-clause-some c =

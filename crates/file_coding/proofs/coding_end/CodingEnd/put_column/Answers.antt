@@ -1,5 +1,5 @@
 use Rattle.std.proofs.Common.{ap₂, ◌+◌, ◌*◌, refl}
-use Rattle.file_coding.proofs.Runs.{rows_behind}
+use Rattle.file_coding.proofs.Runs.{rows_after}
 use Rattle.file_coding.proofs.Columns.{may_put_column, coded_column}
 use Rattle.file_coding.proofs.coding_end.CodingEnd.put_column.Goals as goal
 
@@ -7,7 +7,7 @@ pub put_column-requires : goal.put_column-requires
 put_column-requires c = may_put_column _ _ _ (rw (← c.self.view_is) at c.requires)
 
 pub invariant_of-self-2 : goal.invariant_of-self-2
-invariant_of-self-2 c = (c.self.invariant.0, λ by. rows_behind _ _ _ _ c.go_by.ensures (c.self.invariant.1 by))
+invariant_of-self-2 c = (c.self.invariant.0, λ by. rows_after _ _ _ _ c.go_by.ensures (c.self.invariant.1 by))
 
 pub returns-clause-coded : goal.returns-clause-coded
 returns-clause-coded c =

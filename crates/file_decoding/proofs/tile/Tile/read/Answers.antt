@@ -6,7 +6,7 @@ use Rattle.std.proofs.lemmas.Result.{err_from_is_err_and}
 use Rattle.std.proofs.lemmas.Slice.{take-put_mid}
 use Rattle.file_decoding.specs.Decoding.{MayAskEach, MayAskColumn}
 use Rattle.file_decoding.specs.Tiles.{band_in, time_in}
-use Rattle.file_decoding.proofs.Givers.{gives_behind}
+use Rattle.file_decoding.proofs.Givers.{gives_after}
 use Rattle.file_decoding.proofs.TileWalk.{run_bands, run_times, as_column}
 use Rattle.file_decoding.proofs.tile.Tile.read.Goals as goal
 use Rattle.file_decoding.proofs.tile.Tile.read.Goals.{In-loop-i}
@@ -57,7 +57,7 @@ returns-in_err-next_column-clause-given c =
     let got = c.in_err-next_column.ensures in
     let told = err_from_is_err_and c.from_residual.result c.from_residual.ensures.1 in
     let all = same_len_mid first (first + c.args.self.now.bands - first) c.loop-i.deltas c.next_column.new.deltas got.long ∙ c.loop-i.invariant.long in
-    rw (told.1, told.2, all) (λ m. rw (← c.loop-i.invariant.count) (gives_behind _ _ c.next_column.new.self _ _ _ _ c.next_column.new.reader.left _ _
+    rw (told.1, told.2, all) (λ m. rw (← c.loop-i.invariant.count) (gives_after _ _ c.next_column.new.self _ _ _ _ c.next_column.new.reader.left _ _
     c.next_column.new.deltas (Err _) (c.loop-i.invariant.given m) (got.given (next d _ (got.long ∙ column d) m))))
 
 pub loop-i-preserved : goal.loop-i-preserved
@@ -68,7 +68,7 @@ loop-i-preserved c =
     let cut = take-put_mid first (first + c.args.self.now.bands - first) c.loop-i.deltas c.next_column.new.deltas
     ((c.loop-i.i + 1) * c.args.self.now.bands) (omega (arith, got.long, column d)) (omega (arith, inside d)) in
     record {
-      given = λ m. rw cut (gives_behind _ _ _ _ _ _ _ _ c.loop-i.reader.count _ _ (Ok _) (c.loop-i.invariant.given m)
+      given = λ m. rw cut (gives_after _ _ _ _ _ _ _ _ c.loop-i.reader.count _ _ (Ok _) (c.loop-i.invariant.given m)
           (got.given (next d _ (got.long ∙ column d) m)));
       count = got.count ∙ c.loop-i.invariant.count;
       long = same_len_mid first (first + c.args.self.now.bands - first) c.loop-i.deltas c.next_column.new.deltas got.long ∙ c.loop-i.invariant.long;

@@ -1,6 +1,6 @@
 use Rattle.std.proofs.Common.{rules, ◌≡◌, ◌∷◌, [], arith}
 use Rattle.std.proofs.lemmas.List.{nil_from_length}
-use Rattle.sample_adaptive.proofs.Running.{run_none, run_one, run_behind}
+use Rattle.sample_adaptive.proofs.Running.{run_none, run_one, run_after}
 use Rattle.sample_adaptive.proofs.stats.Stats.put_run.Goals as goal
 
 pub returns-then-t-ge1-clause-taken : goal.returns-then-t-ge1-clause-taken
@@ -11,7 +11,7 @@ pub returns-in-Ok-clause-taken : goal.returns-in-Ok-clause-taken
 returns-in-Ok-clause-taken c =
     let none : c.args.t ≡ 0 = omega arith in
     rw (← c.in_ok-make_room.ensures.same, none, c.in-Some.ensures.cases.0)
-    (run_behind _ 0 (_ ∷ []) _ _ _ _ _ _ _ (run_one _ _ _ _ _ _ _ c.in-Ok.ensures.taken) (c.put_later-in-Some.ensures.taken 1 (omega arith)))
+    (run_after _ 0 (_ ∷ []) _ _ _ _ _ _ _ (run_one _ _ _ _ _ _ _ c.in-Ok.ensures.taken) (c.put_later-in-Some.ensures.taken 1 (omega arith)))
 
 pub returns-in_default-clause-taken : goal.returns-in_default-clause-taken
 returns-in_default-clause-taken c =

@@ -1,6 +1,6 @@
 use Rattle.std.proofs.Common.{refl}
 use Rattle.sample_adaptive.specs.Everything.{everything}
-use Rattle.sample_adaptive.proofs.worked.weights_clipped_from_above.Goals as goal
+use Rattle.sample_adaptive.proofs.worked.step_rounded_down.Goals as goal
 
 pub returns : goal.returns
 unfolding everything

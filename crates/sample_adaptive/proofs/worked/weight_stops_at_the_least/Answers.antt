@@ -1,6 +1,6 @@
 use Rattle.std.proofs.Common.{refl}
 use Rattle.sample_adaptive.specs.Everything.{everything}
-use Rattle.sample_adaptive.proofs.worked.weights_clipped_from_below.Goals as goal
+use Rattle.sample_adaptive.proofs.worked.weight_stops_at_the_least.Goals as goal
 
 pub returns : goal.returns
 unfolding everything
