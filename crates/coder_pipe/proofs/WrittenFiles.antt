@@ -1,4 +1,4 @@
--- What is written is a file, and no file is shorter than its header and the shortest body.
+-- What is written is a file, and no file is shorter than its header and the least length of a body together.
 use Rattle.std.specs.List.{AllByRecursion}
 use Rattle.std.proofs.Common.{◌≡◌, ◌+◌, ◌*◌, ◌/◌, ◌%◌, ◌-◌, ◌<◌, ◌≤◌, ◌^◌, ℕ, zero, suc, Bool, List, [], ◌∷◌, ◌++◌, length, take, drop, refl, ap, inl, inr}
 use Rattle.std.proofs.Common.{length-append, arith}
