@@ -13,7 +13,8 @@ refused write with `Write` and the bytes that were written before it. Pieces as 
 end after their header, whatever sizes it announces.
 
 Finally, the same is done to `refused_allocations`, a program that calls the libraries and repeats each library call that is refused.
-Whichever allocation that is, its bodies and files are those of an undisturbed run. `rt ci` builds both programs where this script
+Whichever allocation that is, its bodies and files are those of an undisturbed run. In a pipeline in which a predictor is stopped,
+as many refusals are reported as where none is: the stop doesn't take their place. `rt ci` builds both programs where this script
 looks for them; `make` builds the first.
 """
 
@@ -205,24 +206,35 @@ def limits(room, name, words, lines):
     return whole
 
 
-def each_call(room):
-    """Refuses each allocation of `refused_allocations` in turn. Returns the number of runs in which a refused library call is repeated."""
-    status, _, wanted = room.run(["all"], program=CALLS)
-    bodies, last = wanted.rsplit(b"made again: ", 1)
-    room.expect("calls", (status, last) == (DONE, b"0\n") and bodies.count(b"by predictors true, back true") == 3, wanted)
+def each_call(room, word):
+    """Refuses each allocation of `refused_allocations WORD` in turn. Returns the lines of an undisturbed run, and the number of runs in
+    which a refused library call is repeated."""
+    status, _, wanted = room.run([word], program=CALLS)
+    lines, last = wanted.rsplit(b"made again: ", 1)
+    room.expect(f"calls, {word}", (status, last) == (DONE, b"0\n"), wanted)
     again = 0
     for nth in range(1, MOST):
-        found = room.run(["all"], refuse=nth, program=CALLS)
+        found = room.run([word], refuse=nth, program=CALLS)
         if not room.met():
-            room.expect("calls: nothing refused", found[2] == wanted, found)
-            return again
+            room.expect(f"calls, {word}: nothing refused", found[2] == wanted, found)
+            return lines, again
         # If memory is refused before the first library call, or for the lines, the program ends with another status and prints nothing.
         early = found[0] != DONE and found[2] == b""
-        repeated = found[2] == bodies + b"made again: 1\n"
-        room.expect(f"calls: call {nth} refused", early or repeated or found[2] == wanted, found)
+        repeated = found[2] == lines + b"made again: 1\n"
+        room.expect(f"calls, {word}: call {nth} refused", early or repeated or found[2] == wanted, found)
         again += repeated
-    room.expect(f"calls: more than {MOST} growths", False, None)
-    return again
+    room.expect(f"calls, {word}: more than {MOST} growths", False, None)
+    return lines, again
+
+
+def each_pipeline_call(room):
+    """Does the same to a pipeline that nothing stops, and to one in which a predictor is stopped at its last residual."""
+    whole, again = each_call(room, "open")
+    stopped, again_stopped = each_call(room, "stopped")
+    room.expect("calls: the pipeline ends", whole.startswith(b"open: "), whole)
+    room.expect("calls: a predictor is stopped", stopped == b"stopped: predictor 1 after 1172\n", stopped)
+    room.expect("calls: memory is reported, not the stop that comes after", again_stopped == again > 0, (again_stopped, again))
+    print(f"calls: in {again_stopped} runs a refusal was reported before a stop")
 
 
 def announced(room):
@@ -260,9 +272,11 @@ def main():
             print(f"{name}: whole under {limits(room, name, words, lines)} limits of {len(range(256, 8192, 64))}")
         announced(room)
         if os.access(CALLS, os.X_OK):
-            again = each_call(room)
+            lines, again = each_call(room, "all")
             room.expect("calls made again", again > 0, again)
+            room.expect("calls: the files", lines.count(b"by predictors true, back true") == 3, lines)
             print(f"calls: in {again} runs a refused call was made again")
+            each_pipeline_call(room)
         print(f"{room.passed} passed, {room.failed} failed")
         sys.exit(1 if room.failed else 0)
 

@@ -52,18 +52,21 @@ pub fn lines<R: Threads + Wait + Sync>(
         restricted: false,
         reference: 64,
     };
-    let one = params_of(
-        Order::Bi(2),
-        WeightStart::Usual,
-        samples(CountStart::Constant(3)),
-    )?;
-    let first = line(rt, alloc, &one, again)?;
+    let first = line(rt, alloc, &interleaved()?, again)?;
     let other = params_of(Order::Bsq, WeightStart::Usual, blocks)?;
     let second = line(rt, alloc, &other, again)?;
     let tables = params_of(Order::Bi(1), weights(alloc)?, samples(constants(alloc)?))?;
     let third = line(rt, alloc, &tables, again)?;
     let lines = format!(in alloc; "{first}{second}{third}")?;
     Ok(lines)
+}
+
+/// Returns parameters of two bands a group, for the sample-adaptive coder.
+pub fn interleaved() -> Result<Params, Fault>
+    ensures { IfOk result (λ p. IsLawful p) }
+{
+    let coder = samples(CountStart::Constant(3));
+    params_of(Order::Bi(2), WeightStart::Usual, coder)
 }
 
 /// Returns the sample-adaptive coder with this accumulator initialization.
@@ -135,7 +138,7 @@ fn line<R: Threads + Wait + Sync>(
 }
 
 /// Returns a cube of numbers. Repeats the call if it was refused.
-fn scene(alloc: Global, params: &Params, again: &mut Again) -> Result<Cube, Fault>
+pub fn scene(alloc: Global, params: &Params, again: &mut Again) -> Result<Cube, Fault>
     ensures cube { IfOk result (λ c. (c.shape ≡ params.now.shape) × (c.kind ≡ params.now.kind)) }
 {
     let mut bytes = Vec::new(alloc);
@@ -153,7 +156,7 @@ fn scene(alloc: Global, params: &Params, again: &mut Again) -> Result<Cube, Faul
 }
 
 /// Returns a plan for two predictors with eight slots each. Repeats the call if it was refused.
-fn plan_of(alloc: Global, params: &Params, again: &mut Again) -> Result<Plan, Fault>
+pub fn plan_of(alloc: Global, params: &Params, again: &mut Again) -> Result<Plan, Fault>
     requires { IsLawful params.now }
     ensures { IfOk result (λ plan. plan.params ≡ params.now) }
 {

@@ -1,17 +1,22 @@
 //! Library calls whose allocations fail, and which are then repeated.
 //!
 //! Every call below that may return `WantOfMemory` is repeated if it does. The bodies and files are then those of an
-//! undisturbed run, whichever allocation the system refuses. `refused_allocations WORD` prints their lengths and checksums. The
-//! last line, which is printed without a word too, says how many calls were repeated.
+//! undisturbed run, whichever allocation the system refuses. `refused_allocations all` prints their lengths and checksums.
+//! With the word `open` there is one pipeline alone, and with `stopped` the same one, whose gate stops a predictor at its
+//! last residual; what became of it is printed. The last line, which is printed without a word too, says how many calls
+//! were repeated.
 #![tactic(auto)]
 
 mod blocks;
 mod files;
 mod repeats;
 mod samples;
+mod stops;
 
 use crate::repeats::Again;
+use crate::stops::StopLast;
 use anyhow::Result;
+use coder_pipe::OpenGate;
 use cube_core::fault::Fault;
 use std::alloc::Global;
 use std::env;
@@ -21,17 +26,36 @@ use std::thread::Threads;
 fn main(rt: HostRuntime) -> Result<()> {
     let mut words = env::args(&rt)?;
     let _program = words.next();
+    let word = words.next();
+    let asked = match &word {
+        None => "all",
+        Some(word) => word.as_str(),
+    };
     let mut again = Again::new();
     // Everything is repeated if another allocation fails, such as that of a line.
-    let lines = match all_lines(&rt, rt.alloc(), &mut again) {
+    let lines = match lines_of(&rt, rt.alloc(), asked, &mut again) {
         Ok(lines) => lines,
-        Err(_) => all_lines(&rt, rt.alloc(), &mut again)?,
+        Err(_) => lines_of(&rt, rt.alloc(), asked, &mut again)?,
     };
-    if words.next().is_some() {
+    if word.is_some() {
         print!(&rt; "{lines}")?;
     }
     println!(&rt; "made again: {}", again.count())?;
     Ok(())
+}
+
+/// Returns the line of one pipeline, or those of each body and each file.
+fn lines_of<R: Threads + Wait + Sync>(
+    rt: &R,
+    alloc: Global,
+    asked: &str,
+    again: &mut Again,
+) -> Result<String, Fault> {
+    match asked {
+        "open" => stops::line(rt, alloc, &OpenGate, again),
+        "stopped" => stops::line(rt, alloc, &StopLast, again),
+        _ => all_lines(rt, alloc, again),
+    }
 }
 
 /// Returns a line for each body and each file.
