@@ -5,12 +5,12 @@ ghost use Rattle.header_bits.specs.Lawful.{IsLawful};
 ghost use Rattle.coder_pipe.specs.Sends.{IsSeen};
 
 use crate::repeats::{Again, numbers};
-use coder_pipe::OpenGate;
 use coder_pipe::decode::decode;
 use coder_pipe::encode::encode_one;
 use coder_pipe::encode_predicted::encode_predicted;
 use coder_pipe::pipeline::Piped;
 use coder_pipe::plan::Plan;
+use coder_pipe::{Gate, OpenGate};
 use cube_core::cube::Cube;
 use cube_core::fault::Fault;
 use cube_core::kind::Kind;
@@ -126,7 +126,7 @@ fn line<R: Threads + Wait + Sync>(
     let cube = scene(alloc, params, again)?;
     let file = encoded(alloc, &cube, params, again)?;
     let plan = plan_of(alloc, params, again)?;
-    let piped = piped(rt, alloc, &cube, &plan, again)?;
+    let piped = piped(rt, alloc, &cube, &plan, &OpenGate, again)?;
     let is_same = piped.file.as_slice() == file.as_slice();
     let is_back = comes_back(alloc, &cube, &file, again)?;
     let length = file.len();
@@ -185,22 +185,23 @@ fn encoded(alloc: Global, cube: &Cube, params: &Params, again: &mut Again) -> Re
     }
 }
 
-/// Encodes a cube with predictors. Repeats the call if memory or a thread was refused.
-fn piped<R: Threads + Wait + Sync>(
+/// Encodes a cube with predictors that a gate may stop. Repeats the call if memory or a thread was refused, and only then.
+pub fn piped<R: Threads + Wait + Sync, G: Gate + Sync>(
     rt: &R,
     alloc: Global,
     cube: &Cube,
     plan: &Plan,
+    gate: &G,
     again: &mut Again,
 ) -> Result<Piped, Fault>
     requires { IsSeen plan.now.params cube.now }
 {
-    match encode_predicted(rt, alloc, cube, plan, &OpenGate) {
-        Ok(piped) => Ok(piped),
-        Err(_) => {
+    match encode_predicted(rt, alloc, cube, plan, gate) {
+        Err(Fault::WantOfMemory | Fault::SpawnRefused) => {
             again.more();
-            encode_predicted(rt, alloc, cube, plan, &OpenGate)
+            encode_predicted(rt, alloc, cube, plan, gate)
         }
+        other => other,
     }
 }
 

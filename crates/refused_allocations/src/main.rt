@@ -14,7 +14,7 @@ mod samples;
 mod stops;
 
 use crate::repeats::Again;
-use crate::stops::StopLast;
+use crate::stops::StopSecond;
 use anyhow::Result;
 use coder_pipe::OpenGate;
 use cube_core::fault::Fault;
@@ -53,7 +53,7 @@ fn lines_of<R: Threads + Wait + Sync>(
 ) -> Result<String, Fault> {
     match asked {
         "open" => stops::line(rt, alloc, &OpenGate, again),
-        "stopped" => stops::line(rt, alloc, &StopLast, again),
+        "stopped" => stops::line(rt, alloc, &StopSecond::at_the_last(), again),
         _ => all_lines(rt, alloc, again),
     }
 }
