@@ -7,11 +7,15 @@ LANES = $(shell awk -v most="$$(nproc)" '/^MemAvailable/ { n = int($$2 / 4000000
 
 SCRIPTS = $(addprefix tests/, command.sh limits.sh options.py sizes.py pipelines.py refused.py guards.py fuzz)
 
-.PHONY: all show install test interop rows bench beside plain $(SCRIPTS)
+.PHONY: all try show install test attack interop rows bench beside plain $(SCRIPTS)
 
 # Proves and builds the program and its libraries, as many in parallel as there are processors.
 all:
 	@tools/build.py ccsds
+
+# A first look, in a minute or two: runs the program on the samples, before anything is proved.
+try:
+	@tools/try.sh
 
 # Builds the program, and shows the sample cube's file in hexadecimal.
 show: all
@@ -31,6 +35,10 @@ test:
 
 $(SCRIPTS):
 	$@
+
+# Tries all wrong code, edits of the gate and slips, or that of CRATES="a b" alone: the prover has to refuse each.
+attack: all
+	@tools/attack.py $(CRATES)
 
 # Compares our block-adaptive bodies with those of libaec's program `aec`, in both directions.
 interop: all plain

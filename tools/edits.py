@@ -1,12 +1,13 @@
 #!/usr/bin/env python3
-"""Prints docs/GUARDS.md: for each crate and promise, the must-fail edits that guard it, with the lines that they change.
+"""Prints docs/GUARDS.md: for each crate and promise, the wrong code that guards it, with the lines that it changes.
 
     tools/edits.py [CRATE ...]    prints the page, or its sections on these crates
     tools/edits.py --write        rewrites the page
 
-A promise is a row of docs/PROMISES.md, with its name in bold. The first line of an edit names what it guards:
-`guards: NAME`, with `; ` between several names, and `CRATE/NAME` for a promise of another crate. An edit without a promise is an
-error, and so is a promise that is proved and has no edit, unless its row says `no edit` and why.
+Wrong code has two homes: the edits in `must-fail/`, which the gate tries, and those in `slips/`, which `make attack` tries too. A
+promise is a row of docs/PROMISES.md, with its name in bold. The first line of an edit names what it guards: `guards: NAME`, with `; `
+between several names, and `CRATE/NAME` for a promise of another crate. An edit without a promise is an error, and so is one that can't
+be applied, and a promise that is proved and has no edit in the gate, unless its row says `no edit` and why.
 """
 
 import os.path
@@ -26,11 +27,15 @@ WIDTH = 160
 KEPT = 24
 """The number of common characters that are kept on each side where two lines of code are shortened."""
 
+GATE, SLIPS = HOMES = ("must-fail", "slips")
+"""The folders of a crate that hold wrong code: what the gate tries, and what `make attack` tries too."""
+
 HEAD = """# Guards
 
-What guards the promises of [PROMISES.md](PROMISES.md): must-fail edits, each a file `crates/CRATE/must-fail/EDIT.edit` that turns lines of a
-source into wrong ones, which the prover has to refuse. The gate tries them all. `tools/edits.py --write` writes this page from the edits. In it …
-stands for code that both lines have, or for the rest of a long one, and *nothing* for a line that is left out.
+What guards the promises of [PROMISES.md](PROMISES.md): edits, each of which turns lines of a source into wrong ones, which the prover has to
+refuse. The gate tries those in **bold**, `crates/CRATE/must-fail/EDIT.edit`; `make attack` tries the others too, `crates/CRATE/slips/EDIT.edit`.
+`tools/edits.py --write` writes this page from the edits. In it … stands for code that both lines have, or for the rest of a long one, and
+*nothing* for a line that is left out.
 """
 
 
@@ -46,15 +51,16 @@ class Promise(NamedTuple):
 
 
 class Edit(NamedTuple):
-    """A must-fail edit: the promises that it guards, by crate and name, and its lines by file, old and new."""
+    """An edit: its home, the promises that it guards, by crate and name, and its lines by file, old and new."""
 
     crate: str
+    home: str
     name: str
     guards: list
     lines: list
 
     def __str__(self):
-        return f"crates/{self.crate}/must-fail/{self.name}.edit"
+        return f"crates/{self.crate}/{self.home}/{self.name}.edit"
 
 
 def promises():
@@ -78,33 +84,54 @@ def promises():
 
 def read(path):
     """Returns the edit in a file."""
-    crate, file, old, guards, lines = path.parent.parent.name, "", "", [], []
+    crate, home, file, old, guards, lines = path.parent.parent.name, path.parent.name, "", "", [], []
     for line in path.read_text(encoding="utf-8").splitlines():
         key, _, text = line.partition(":")
-        text = text.strip()
+        text = text.removeprefix(" ")
         if key == "guards":
-            guards = [tuple(name.split("/", 1)) if "/" in name else (crate, name) for name in text.split("; ")]
+            guards = [tuple(name.split("/", 1)) if "/" in name else (crate, name) for name in text.strip().split("; ")]
         elif key == "file":
-            file = text
+            file = text.strip()
         elif key == "old":
             old = text
         elif key == "new":
             lines.append((file, old, text))
-    return Edit(crate, path.stem, guards, lines)
+    return Edit(crate, home, path.stem, guards, lines)
 
 
 def edits():
-    """Returns the edits of all crates."""
-    return [read(path) for path in sorted(CRATES.glob("*/must-fail/*.edit"))]
+    """Returns the edits of all crates, in both homes, by crate and name."""
+    found = [read(path) for home in HOMES for path in CRATES.glob(f"*/{home}/*.edit")]
+    return sorted(found, key=lambda edit: (edit.crate, edit.name))
+
+
+def unapplied(edit):
+    """Returns why an edit can't be applied to its crate, or none."""
+    texts = {}
+    for file, old, new in edit.lines:
+        path = CRATES / edit.crate / file
+        if not path.is_file():
+            return f"there is no file {file}"
+        text = texts.get(file) or path.read_text(encoding="utf-8")
+        if not old or text.count(old) != 1:
+            return f"a line is in {file} {text.count(old)} times, and not once: {old.strip()}"
+        texts[file] = text.replace(old, new)
+    return None if texts else "it changes nothing"
 
 
 def faults():
     """Returns the faults of promises and edits, one line each."""
     found, wrong = promises()
     names = {promise[:2] for promise in found}
-    guarded = set()
+    guarded, told = set(), set()
     for edit in edits():
-        guarded.update(edit.guards)
+        if edit.home == GATE:
+            guarded.update(edit.guards)
+        if (edit.crate, edit.name) in told:
+            wrong.append(f"{edit.crate} has two edits called {edit.name}")
+        told.add((edit.crate, edit.name))
+        if why := unapplied(edit):
+            wrong.append(f"{edit}: {why}")
         if not edit.guards:
             wrong.append(f"{edit} names no promise: its first line has to be `guards: NAME`")
         for crate, name in edit.guards:
@@ -112,7 +139,7 @@ def faults():
                 wrong.append(f"{edit} guards '{name}', and PROMISES.md has no such promise of {crate}")
     for promise in found:
         if promise.needs_edits() and promise[:2] not in guarded:
-            wrong.append(f"no edit guards the promise '{promise.name}' of {promise.crate}, and its row doesn't say `no edit`")
+            wrong.append(f"no edit of the gate guards the promise '{promise.name}' of {promise.crate}, and its row doesn't say `no edit`")
     return wrong
 
 
@@ -139,7 +166,7 @@ def turned(edit):
     """Returns the old and new lines of an edit, each pair on one line, or on two where they are long."""
     found = []
     for _, old, new in edit.lines:
-        old, new = map(cell, shortened(old, new))
+        old, new = map(cell, shortened(old.strip(), new.strip()))
         found.append(old + (" → " if len(old) + len(new) < WIDTH - 6 else " →\n  ") + new)
     return ";\n  ".join(found)
 
@@ -147,7 +174,8 @@ def turned(edit):
 def entry(edit, crate):
     """Returns an edit as an item of the list under a promise of a crate."""
     files = dict.fromkeys(file if edit.crate == crate else f"{edit.crate}/{file}" for file, _, _ in edit.lines)
-    head, lines = f"* *{edit.name}*, {', '.join(files)}:", turned(edit)
+    mark = "**" if edit.home == GATE else "*"
+    head, lines = f"* {mark}{edit.name}{mark}, {', '.join(files)}:", turned(edit)
     apart = "\n  " if "\n" in lines or len(head) + len(lines) > WIDTH - 1 else " "
     return head + apart + lines + "\n"
 
