@@ -21,8 +21,8 @@ add() {
 
 add 1-show "$samples/small.cube" "$samples/small.hex" show
 add 2-compress "$samples/scene.raw" "$samples/scene.ccsds" compress \
-    --columns 3 --rows 2 --bands 2 --bits 8 --bytes 1 --previous 1 --register 32 /dev/stdin /dev/stdout
-add 3-inspect "$samples/scene.ccsds" "$samples/scene.txt" inspect
+    --columns 3 --rows=2 --bands 2 --bits 8 --bytes 1 --previous 1 --register 32 /dev/stdin /dev/stdout
+add 3-inspect "$samples/scene.ccsds" "$samples/scene.inspect" inspect
 add 4-expand "$samples/scene.ccsds" "$samples/scene.raw" expand --bytes 1 /dev/stdin /dev/stdout
 
 cd "$top/crates/ccsds"
