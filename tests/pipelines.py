@@ -15,7 +15,7 @@ import sys
 import tempfile
 
 sys.dont_write_bytecode = True
-from options import LAYOUTS, PROGRAM, Room, raw_bytes
+from harness import LAYOUTS, PROGRAM, Room, raw_bytes, samples_of
 
 SLOTS = (1, 2, 8, 1024, 65_536)
 RUNS = 4
@@ -68,19 +68,6 @@ def coder_words(chance, bits):
 
 
 # ---- raw bytes
-
-
-def samples_of(chance, count, low, high):
-    """Returns samples that are independent, follow a slow random walk, or are all equal."""
-    form, found, value = chance.choice(("any", "walk", "alike")), [], chance.randint(low, high)
-    step = max(1, (high - low) // 50)
-    for _ in range(count):
-        if form == "any":
-            value = chance.randint(low, high)
-        elif form == "walk":
-            value = min(high, max(low, value + chance.randint(-step, step)))
-        found.append(value)
-    return found
 
 
 def damaged(chance, raw):

@@ -16,8 +16,7 @@ import sys
 import tempfile
 
 sys.dont_write_bytecode = True
-from options import PROGRAM, TOP, Room
-from pipelines import samples_of
+from harness import PROGRAM, TOP, Room, samples_of
 
 PLAIN = os.path.join(TOP, "bench", "target", "release", "plain")
 HEADER = 19

@@ -11,7 +11,7 @@ import random
 import sys
 import tempfile
 
-from options import PROGRAM, USUAL, Room, header, inspected
+from harness import PROGRAM, USUAL, Room, header, inspected
 
 CODERS = ("sample", "block")
 
