@@ -130,20 +130,22 @@ impl BlockReader {
     ///
     /// With these, no more numbers are returned than all blocks have. Where no lawful data set comes next while
     /// numbers are missing, the refusal is that of `next`; the bits then keep the position of that data set, what
-    /// is in `numbers` is unspecified, and every later call returns the same refusal. It allocates nothing.
+    /// is in `numbers` is unspecified, and every later call returns the same refusal and changes nothing else. It allocates
+    /// nothing.
     pub fn next_run(&mut self, reader: &mut BitReader, numbers: &mut [u16]) -> Result<(), Fault>
         requires { given_count self.old + length numbers.old ≤ capacity self.old.cut }
         ensures given { GivesRun self.old reader.old result self.new reader.new.left numbers.new }
         ensures again { (fault : Fault) → self.old.refused ≡ Some fault → result ≡ Err fault }
         ensures kept { IfErr result (λ fault. self.new.refused ≡ Some fault) }
+        ensures still { (fault : Fault) → self.old.refused ≡ Some fault → (self.new ≡ self.old) × (reader.new ≡ reader.old) }
         ensures stops { IfErr result (λ fault. self.old.refused ≡ None → (self.new.held ≡ []) × (next_data_set self.new reader.new ≡ Err fault)) }
         ensures counted { IfOk result (λ _. given_count self.new ≡ given_count self.old + length numbers.old) }
         ensures inside { self.new.block ≤ self.new.cut.count }
         ensures count { reader.new.count ≡ reader.old.count }
         ensures cut { self.new.cut ≡ self.old.cut }
     {
-        if let Some(fault) = self.refused {
-            return Err(fault);
+        if let Some(refusal) = self.refused {
+            return Err(refusal);
         }
         let mut done = 0;
         while done < numbers.len() {

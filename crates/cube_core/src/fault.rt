@@ -4,7 +4,6 @@ ghost use Rattle.std.specs.Prelude.{◌≡◌};
 ghost use Rattle.cube_core.specs.declared.fault.Fault.TheVariants.{WantOfMemory};
 
 use std::alloc::{AllocError, AllocFailed};
-use std::fmt;
 use thiserror::Error;
 
 /// A parameter, or a field of the header, that has a range of its own.
@@ -103,118 +102,65 @@ pub enum Rule {
 #[derive(Clone, Copy, Debug, PartialEq, Eq, Error)]
 pub enum Fault {
     /// The bytes don't hold a whole part of the header, or a whole table.
+    #[error("1 ShortHeader")]
     ShortHeader,
     /// The first reserved bit, or fill bit of a table, that is one; `bit` counts from the header's first bit.
+    #[error("2 Reserved {bit}")]
     Reserved { bit: u64 },
     /// A parameter out of its own range; `value` is the parameter itself, after any offset of its field.
+    #[error("3 FieldRange {field:?} {value}")]
     FieldRange { field: Field, value: i64 },
     /// Parameters break a rule.
+    #[error("4 Disagree {rule:?}")]
     Disagree { rule: Rule },
     /// A custom weight start whose table isn't in the file.
+    #[error("5 TableElsewhere")]
     TableElsewhere,
     /// The bits end too early; `bit` is the number of bits in the file.
+    #[error("6 Truncated {bit}")]
     Truncated { bit: u64 },
     /// Sample-adaptive: a needless escape, or a value above 2^D - 1; `place` is the index in encoding order.
+    #[error("7 BadCode {place}")]
     BadCode { place: u64 },
     /// Block-adaptive: the block holds a value above 2^D - 1.
+    #[error("8 BadOption {block}")]
     BadOption { block: u64 },
     /// A run of zero blocks is longer than the rest of its segment.
+    #[error("9 RunPastSegment {block}")]
     RunPastSegment { block: u64 },
     /// A bit after the last code word is one.
+    #[error("10 BadFill")]
     BadFill,
     /// A whole output word or more follows the last code word; `bits` is how many bits do.
+    #[error("11 TooLong {bits}")]
     TooLong { bits: u64 },
     /// An allocation failed.
+    #[error("12 WantOfMemory")]
     WantOfMemory,
     /// A raw sample that isn't of the kind, or a sample that doesn't fit in its raw bytes; `index` counts in the layout's order.
+    #[error("13 SampleRange {index}")]
     SampleRange { index: u64 },
     /// There are `had` raw bytes in place of `wanted`.
+    #[error("14 RawLength {wanted} {had}")]
     RawLength { wanted: u64, had: u64 },
     /// The first band whose predictor doesn't exist; if there is none, the first that only the deal or only the image has.
+    #[error("15 BadDeal {band}")]
     BadDeal { band: u32 },
     /// A thread was not started.
+    #[error("16 SpawnRefused")]
     SpawnRefused,
     /// A gate stopped a predictor after it had sent `sent` residuals.
+    #[error("17 Stopped {predictor} {sent}")]
     Stopped { predictor: u32, sent: u64 },
     /// The source failed, or gave more than the limit.
+    #[error("18 Read")]
     Read,
     /// The sink failed, or took nothing of a piece that isn't empty; `written` bytes went out before.
+    #[error("19 Write {written}")]
     Write { written: u64 },
     /// The words are not a lawful command.
+    #[error("20 Usage")]
     Usage,
-}
-
-impl Fault {
-    /// Returns its number and its name.
-    fn name(&self) -> &'static str {
-        match self {
-            Fault::ShortHeader => "1 ShortHeader",
-            Fault::Reserved { .. } => "2 Reserved",
-            Fault::FieldRange { .. } => "3 FieldRange",
-            Fault::Disagree { .. } => "4 Disagree",
-            Fault::TableElsewhere => "5 TableElsewhere",
-            Fault::Truncated { .. } => "6 Truncated",
-            Fault::BadCode { .. } => "7 BadCode",
-            Fault::BadOption { .. } => "8 BadOption",
-            Fault::RunPastSegment { .. } => "9 RunPastSegment",
-            Fault::BadFill => "10 BadFill",
-            Fault::TooLong { .. } => "11 TooLong",
-            Fault::WantOfMemory => "12 WantOfMemory",
-            Fault::SampleRange { .. } => "13 SampleRange",
-            Fault::RawLength { .. } => "14 RawLength",
-            Fault::BadDeal { .. } => "15 BadDeal",
-            Fault::SpawnRefused => "16 SpawnRefused",
-            Fault::Stopped { .. } => "17 Stopped",
-            Fault::Read => "18 Read",
-            Fault::Write { .. } => "19 Write",
-            Fault::Usage => "20 Usage",
-        }
-    }
-
-    /// Returns its values, where these are numbers: none, one or two.
-    fn numbers(&self) -> (Option<u64>, Option<u64>) {
-        match *self {
-            Fault::Reserved { bit } => (Some(bit), None),
-            Fault::Truncated { bit } => (Some(bit), None),
-            Fault::BadCode { place } => (Some(place), None),
-            Fault::BadOption { block } => (Some(block), None),
-            Fault::RunPastSegment { block } => (Some(block), None),
-            Fault::TooLong { bits } => (Some(bits), None),
-            Fault::SampleRange { index } => (Some(index), None),
-            Fault::RawLength { wanted, had } => (Some(wanted), Some(had)),
-            Fault::BadDeal { band } => (Some(u64::from(band)), None),
-            Fault::Stopped { predictor, sent } => (Some(u64::from(predictor)), Some(sent)),
-            Fault::Write { written } => (Some(written), None),
-            _ => (None, None),
-        }
-    }
-}
-
-/// Prints a space and a number, where there is one.
-fn print_number<W: fmt::Write>(f: &mut fmt::Formatter<W>, number: Option<u64>) -> fmt::Result {
-    match number {
-        Some(number) => write!(f, " {number}"),
-        None => Ok(()),
-    }
-}
-
-/// Prints the values that aren't numbers alone.
-fn print_names<W: fmt::Write>(f: &mut fmt::Formatter<W>, fault: &Fault) -> fmt::Result {
-    match *fault {
-        Fault::FieldRange { field, value } => write!(f, " {field:?} {value}"),
-        Fault::Disagree { rule } => write!(f, " {rule:?}"),
-        _ => Ok(()),
-    }
-}
-
-impl fmt::Display for Fault {
-    fn fmt<W: fmt::Write>(&self, f: &mut fmt::Formatter<W>) -> fmt::Result {
-        let (first, second) = self.numbers();
-        f.write_str(self.name())?;
-        print_names(f, self)?;
-        print_number(f, first)?;
-        print_number(f, second)
-    }
 }
 
 impl From<AllocError> for Fault {

@@ -101,7 +101,7 @@ impl Band {
     /// Returns the mapped residual of the cube's sample at the next place, and advances by one place.
     ///
     /// The cube has the shape and kind of the parameters, and the next place is row `y`, column `x`. The result
-    /// is at most 2^D - 1 (CCSDS 123.0-B-1, "Predictor").
+    /// is at most 2^D - 1 (CCSDS 123.0-B-1, "Predictor"). The band holds its last piece as before.
     // Inlined into a loop over places it is slower.
     #[inline(never)]
     pub fn forward(&mut self, cube: &Cube, y: u32, x: u32) -> u16
@@ -110,6 +110,7 @@ impl Band {
         requires place { IsPlace cube.now.shape self.old.band y x }
         requires next { self.old.t ≡ y * cube.now.shape.columns + x }
         ensures moved { MovesOn self.old self.new }
+        ensures held { self.new.piece ≡ self.old.piece }
         ensures bound { result < 2 ^ cube.now.kind.bits }
         ensures residual { (p : Parameters) → Follows p self.old cube.now → result ≡ mapped_residual p cube.now self.old.band self.old.t }
         ensures follows { (p : Parameters) → Follows p self.old cube.now → Follows p self.new cube.now }
@@ -127,7 +128,8 @@ impl Band {
     ///
     /// The cube has the shape and kind of the parameters, and the next place is row `y`, column `x`. `delta` is
     /// at most 2^D - 1. The cube's samples at this place and later ones are not read, and the cube isn't
-    /// written: the caller writes the sample into it before the next call that reads this band.
+    /// written: the caller writes the sample into it before the next call that reads this band. The band holds its last
+    /// piece as before.
     #[inline(never)]
     pub fn inverse(&mut self, cube: &Cube, y: u32, x: u32, delta: u16) -> i32
         requires shape { cube.now.shape ≡ self.old.shape }
@@ -136,6 +138,7 @@ impl Band {
         requires next { self.old.t ≡ y * cube.now.shape.columns + x }
         requires residual { delta < 2 ^ cube.now.kind.bits }
         ensures moved { MovesOn self.old self.new }
+        ensures held { self.new.piece ≡ self.old.piece }
         ensures range { IsSample cube.now.kind result }
         ensures residual { (p : Parameters) → Follows p self.old cube.now
             → mapped_residual p (put cube.now self.old.band y x result) self.old.band self.old.t ≡ delta }

@@ -20,7 +20,7 @@ impl Band {
     ///
     /// A run has at most 64 places. Its first place is the next one, row `y`, column `x`, and all of them are
     /// in that row. The cube has the shape and kind of the parameters. Each residual is at most 2^D - 1
-    /// (CCSDS 123.0-B-1, "Predictor").
+    /// (CCSDS 123.0-B-1, "Predictor"). The band holds its last piece as before.
     pub fn forward_run(&mut self, cube: &Cube, y: u32, x: u32, residuals: &mut [u16])
         requires shape { cube.now.shape ≡ self.old.shape }
         requires kind { cube.now.kind ≡ self.old.kind }
@@ -29,6 +29,7 @@ impl Band {
         requires inside { x + length residuals.old ≤ cube.now.shape.columns }
         requires next { self.old.t ≡ y * cube.now.shape.columns + x }
         ensures moved { MovesBy (length residuals.old) self.old self.new }
+        ensures held { self.new.piece ≡ self.old.piece }
         ensures bound { (i : ℕ) → i < length residuals.new → slice_index residuals.new i < 2 ^ cube.now.kind.bits }
         ensures residuals { (p : Parameters) → Follows p self.old cube.now
             → residuals.new ≡ run_residuals p cube.now self.old.band self.old.t (length residuals.old) }
@@ -59,6 +60,7 @@ impl Band {
         requires inside { x + length residuals.old ≤ cube.now.shape.columns }
         requires next { self.old.t ≡ y * cube.now.shape.columns + x }
         ensures moved { MovesBy (length residuals.old) self.old self.new }
+        ensures held { self.new.piece ≡ self.old.piece }
         ensures bound { (i : ℕ) → i < length residuals.new → slice_index residuals.new i < 2 ^ cube.now.kind.bits }
         ensures residuals { (p : Parameters) → Follows p self.old cube.now
             → residuals.new ≡ run_residuals p cube.now self.old.band self.old.t (length residuals.old) }

@@ -27,7 +27,7 @@ impl Band {
     /// A run has at most 64 places. Its first place is the next one, row `y`, column `x`, and all of them are
     /// in that row. The cube has the shape and kind of the parameters, and each residual is at most 2^D - 1.
     /// The cube's samples at these places and later ones are not read, and no other sample is written
-    /// (CCSDS 123.0-B-1, "Predictor").
+    /// (CCSDS 123.0-B-1, "Predictor"). The band holds its last piece as before.
     pub fn inverse_run(&mut self, cube: &mut Cube, y: u32, x: u32, deltas: &[u16])
         requires shape { cube.old.shape ≡ self.old.shape }
         requires kind { cube.old.kind ≡ self.old.kind }
@@ -37,6 +37,7 @@ impl Band {
         requires next { self.old.t ≡ y * cube.old.shape.columns + x }
         requires residuals_in { (i : ℕ) → i < length deltas.now → slice_index deltas.now i < 2 ^ cube.old.kind.bits }
         ensures moved { MovesBy (length deltas.now) self.old self.new }
+        ensures held { self.new.piece ≡ self.old.piece }
         ensures beside { AreAlikeBeside cube.old cube.new self.old.band y x (length deltas.now) }
         ensures residuals { (p : Parameters) → Follows p self.old cube.old → run_residuals p cube.new self.old.band self.old.t (length deltas.now)
             ≡ deltas.now }
@@ -69,6 +70,7 @@ impl Band {
         requires next { self.old.t ≡ y * cube.old.shape.columns + x }
         requires residuals_in { (i : ℕ) → i < length deltas.now → slice_index deltas.now i < 2 ^ cube.old.kind.bits }
         ensures moved { MovesBy (length deltas.now) self.old self.new }
+        ensures held { self.new.piece ≡ self.old.piece }
         ensures beside { AreAlikeBeside cube.old cube.new self.old.band y x (length deltas.now) }
         ensures residuals { (p : Parameters) → Follows p self.old cube.old → run_residuals p cube.new self.old.band self.old.t (length deltas.now)
             ≡ deltas.now }
@@ -92,6 +94,7 @@ impl Band {
         requires next { self.old.t ≡ y * cube.old.shape.columns + x }
         requires residual { delta < 2 ^ cube.old.kind.bits }
         ensures moved { MovesOn self.old self.new }
+        ensures held { self.new.piece ≡ self.old.piece }
         ensures written { cube.new ≡ put cube.old self.old.band y x result }
         ensures residual { (p : Parameters) → Follows p self.old cube.old → mapped_residual p cube.new self.old.band self.old.t ≡ delta }
         ensures follows { (p : Parameters) → Follows p self.old cube.old → Follows p self.new cube.new }

@@ -1,10 +1,10 @@
 -- A run of one band's numbers, taken one after another.
 use borrow.Rule.Slice.PartMut.{put_mid, same_len_mid}
-use Rattle.std.proofs.Common.{◌≡◌, ◌+◌, ◌-◌, ◌<◌, ◌≤◌, ℕ, suc, Bool, true, false, cond, eqb, List, [], ◌∷◌, ◌++◌, length, take, drop, get_or}
+use Rattle.std.proofs.Common.{◌≡◌, ◌+◌, ◌-◌, ◌<◌, ◌≤◌, ℕ, suc, Bool, true, false, cond, eqb, List, [], ◌∷◌, ◌++◌, length, take, drop}
 use Rattle.std.proofs.Common.{refl, sym, ap, ap₂, subst, ◌∙◌, append_assoc, append-nil, length-append, length-take, length-drop, take-append-drop, arith}
 use Rattle.std.proofs.Common.{eq-eqb}
 use Rattle.std.proofs.lemmas.Bool.{ne_eqb}
-use Rattle.std.proofs.lemmas.List.{get_or-set_same, length-set, set-set, set-get_or, take_more, take_all}
+use Rattle.std.proofs.lemmas.List.{get_or-set_same, length-set, set-set, set-get_or, take_all}
 use Rattle.std.proofs.lemmas.Slice.{take-put_mid}
 use Rattle.std.specs.List.{AllByRecursion}
 use Rattle.cube_core.specs.declared.order.Place.{Place}
@@ -14,7 +14,7 @@ use Rattle.sample_adaptive.specs.Statistics.{CoderSettings, next_statistics, cod
 use Rattle.sample_adaptive.specs.Words.{code_word, code_at}
 use Rattle.sample_adaptive.specs.Body.{band_numbers, words_after, sample_body}
 use Rattle.sample_adaptive.specs.Taken.{Counts, PutsNumber, PutsRun, code_by, counted, of_band, no_statistics, with_band}
-use Rattle.sample_adaptive.proofs.Taking.{puts_number, taken_along}
+use Rattle.sample_adaptive.proofs.Taking.{taken_along}
 
 -- ---- how many numbers its band has
 
@@ -128,19 +128,6 @@ module _ (z t : ℕ) (v : Counts) (s : Statistics) (lt : z < length v.bands) (so
 
   pub later_counted : (number : ℕ) → counted (with_band v z s) z t number ≡ with_band v z (next_statistics v.gamma_star s number)
   later_counted number = rw (ne_eqb t 0 (λ e. omega (arith, some, e)), get_or-set_same v.bands z s no_statistics lt, set-set) refl
-
-pub run_step : (z t i number : ℕ) (v : Counts) (s next : Statistics) (numbers : List ℕ) (written was now : List Bool) → z < length v.bands → 0 < t
-    → i < length numbers → number ≡ get_or numbers i 0
-    → now ≡ was ++ code_word (record { limit = v.umax; low = code_parameter v.bits s; bits = v.bits }) number → next ≡ next_statistics v.gamma_star s number
-    → PutsRun z t (take i numbers) v written (with_band v z s) was
-    → PutsRun z t (take (i + 1) numbers) v written (with_band v z next) now
-run_step z t i number v s next numbers written was now lt some within there text counts run =
-    let later : 0 < t + length (take i numbers) = omega (arith, some) in
-    let here : now ≡ was ++ code_word (code_by (with_band v z s) z (t + length (take i numbers))) number = rw (later_code z _ v s lt later) text in
-    let puts = puts_number z (t + length (take i numbers)) number (with_band v z s) was now (later_inside z _ v s lt later) here in
-    let one = run_one z (t + length (take i numbers)) number (with_band v z s) _ was now puts in
-    let both = run_after z t (take i numbers) (number ∷ []) v (with_band v z s) _ written was now run one in
-    rw (counts, ← later_counted z (t + length (take i numbers)) v s lt later number, take_more numbers i 0 within, ← there) both
 
 pub same_band : (v : Counts) (z : ℕ) (s : Statistics) → s ≡ of_band v.bands z → with_band v z s ≡ v
 same_band v z s e = rw (e, set-get_or) refl

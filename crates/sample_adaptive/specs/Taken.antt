@@ -84,6 +84,21 @@ PutsColumn z t (number ∷ numbers) old written new written_now =
     (mid : Counts) × (written_mid : List Bool) × (length mid.bands ≡ length old.bands) × (mid.bits ≡ old.bits)
     × PutsNumber z t number old written mid written_mid × PutsColumn (suc z) t numbers mid written_mid new written_now
 
+-- numbers are written one after another, whatever was read or refused before: the first as number ts i of band zs i, the next as number ts (i + 1) of band
+-- zs (i + 1), .., each with the code of what was counted before it
+abbrev pub Writes : (ℕ → ℕ) → (ℕ → ℕ) → ℕ → List ℕ → Counts → List Bool → Counts → List Bool → Type 0
+Writes zs ts i [] old written new written_now = (new ≡ old) × (written_now ≡ written)
+Writes zs ts i (number ∷ numbers) old written new written_now =
+    Writes zs ts (i + 1) numbers (counted old (zs i) (ts i) number) (written ++ code_word (code_by old (zs i) (ts i)) number) new written_now
+
+-- numbers of one band that follow one another, from its number t on
+abbrev pub WritesRun : ℕ → ℕ → List ℕ → Counts → List Bool → Counts → List Bool → Type 0
+WritesRun z t numbers old written new written_now = Writes (λ i. z) (λ i. t + i) 0 numbers old written new written_now
+
+-- number t of each of bands one above another, from band z on
+abbrev pub WritesColumn : ℕ → ℕ → List ℕ → Counts → List Bool → Counts → List Bool → Type 0
+WritesColumn z t numbers old written new written_now = Writes (λ i. z + i) (λ i. t) 0 numbers old written new written_now
+
 -- whatever numbers were taken before, of which band z has t: the number whose code word stands next was taken, or the first fault is answered, at a place
 abbrev pub GetsAt : ℕ → ℕ → ℕ → Result ℕ Fault → Counts → Unread → Counts → List Bool → Type 0
 GetsAt z t index result old unread new left =

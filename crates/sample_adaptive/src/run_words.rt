@@ -6,7 +6,7 @@ ghost use Rattle.cube_core.specs.declared.fault.Fault.TheVariants.{WantOfMemory}
 ghost use Rattle.sample_adaptive.specs.Statistics.{next_statistics, code_parameter};
 ghost use Rattle.header_bits.specs.Bits.{bits_of};
 ghost use Rattle.sample_adaptive.specs.Words.{code_word};
-ghost use Rattle.sample_adaptive.specs.Taken.{Counts, HasSettings, PutsRun, GetsEach, GetsRun, Reaches, of_band, with_band};
+ghost use Rattle.sample_adaptive.specs.Taken.{Counts, HasSettings, Writes, GetsEach, GetsRun, Reaches, of_band, with_band};
 ghost use Rattle.sample_adaptive.specs.Tracked.{IsTracked};
 
 use crate::code_word::{Code, Word, push_both, take_from, take_word, word_of};
@@ -35,9 +35,9 @@ pub(crate) fn put_words(writer: BitWriter, run: LaterRun) -> (BitWriter, Tracked
     requires tracked { IsTracked run.codes run.tracked }
     requires numbers { AllByRecursion (λ n. n < 2 ^ run.codes.bits) run.numbers.now }
     requires room { 48 * length run.numbers.now ≤ writer.room }
-    ensures taken { (v : Counts) (z t : ℕ) → z < length v.bands → HasSettings v run.entry.codes.bits run.entry.codes.limit run.entry.codes.rescaling.size
-        → of_band v.bands z ≡ run.entry.tracked.statistics → 0 < t
-        → PutsRun z t run.entry.numbers.now v writer.bits (with_band v z result.1.statistics) result.0.bits }
+    ensures written { (v : Counts) (z t k : ℕ) → z < length v.bands → HasSettings v run.entry.codes.bits run.entry.codes.limit run.entry.codes.rescaling.size
+        → of_band v.bands z ≡ run.entry.tracked.statistics → 0 < t + k
+        → Writes (λ i. z) (λ i. t + i) k run.entry.numbers.now v writer.bits (with_band v z result.1.statistics) result.0.bits }
     ensures tracked { IsTracked run.entry.codes result.1 }
 {
     let mut writer = writer;

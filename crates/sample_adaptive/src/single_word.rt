@@ -2,7 +2,7 @@
 
 ghost use Rattle.std.specs.Prelude.{◌≡◌, ◌^◌, ◌<◌, length, Err, Some, None, IfOk, IfErr, OnErr, option_map};
 ghost use Rattle.cube_core.specs.declared.fault.Fault.{Fault};
-ghost use Rattle.sample_adaptive.specs.Reading.{fault_at};
+ghost use Rattle.sample_adaptive.specs.Reading.{fault_at, first_refusal};
 ghost use Rattle.sample_adaptive.specs.Taken.{Counts, GetsAt, GetsNumber};
 
 use crate::column::take_number;
@@ -49,6 +49,7 @@ impl Stats {
         ensures below { IfOk result (λ number. number < 2 ^ self.old.bits) }
         ensures again { (fault : Fault) → self.old.refused ≡ Some fault → result ≡ Err (fault_at index fault) }
         ensures kept { IfErr result (λ fault. option_map (fault_at index) self.new.refused ≡ Some fault) }
+        ensures stored { IfErr result (λ fault. self.new.refused ≡ Some (first_refusal self.old.refused fault)) }
         ensures rest { IfErr result (λ fault. self.new ≡ record self.old { refused = self.new.refused }) }
         ensures same { OnErr result (reader.new ≡ reader.old) }
         ensures count { reader.new.count ≡ reader.old.count }

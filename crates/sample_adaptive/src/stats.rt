@@ -1,13 +1,14 @@
 //! The coder of one image: it keeps each band's statistics, writes numbers, and reads them back.
 
-ghost use Rattle.std.specs.Prelude.{◌≡◌, ◌+◌, ◌*◌, ◌^◌, ◌<◌, ◌≤◌, [], length, max, Err, Some, IsOk, IfOk, IfErr, OnOk, OnErr, ℕ};
+ghost use Rattle.std.specs.Prelude.{◌≡◌, ◌+◌, ◌*◌, ◌^◌, ◌<◌, ◌≤◌, ◌++◌, [], length, max, Err, Some, IsOk, IfOk, IfErr, OnOk, OnErr, ℕ};
 ghost use Rattle.std.specs.List.{AllByRecursion};
 ghost use Rattle.cube_core.specs.declared.fault.Fault.{Fault};
 ghost use Rattle.cube_core.specs.declared.fault.Fault.TheVariants.{WantOfMemory};
 ghost use Rattle.sample_adaptive.specs.Settings.{AreForSamples, HasEntries, settings};
 ghost use Rattle.sample_adaptive.specs.Statistics.{constant_of, start_statistics};
-ghost use Rattle.sample_adaptive.specs.Taken.{Counts, HasTaken, HasSettings, PutsNumber, PutsRun, GetsRun, of_band};
+ghost use Rattle.sample_adaptive.specs.Taken.{Counts, HasTaken, HasSettings, PutsNumber, PutsRun, GetsRun, Writes, WritesRun, code_by, counted, of_band};
 ghost use Rattle.sample_adaptive.specs.Tracked.{AreTracked, statistics_of};
+ghost use Rattle.sample_adaptive.specs.Words.{code_word};
 
 use crate::run_codes::RunCodes;
 use crate::run_words::{LaterRun, make_room, put_words, take_words};
@@ -86,12 +87,15 @@ impl Stats {
     ///
     /// `z` is below the number of bands, `t` counts the band's numbers from 0, and the number is at most 2^D - 1. The word has at
     /// most 48 bits and is pushed at once; it succeeds where the writer has room for 48 bits. Returns `WantOfMemory` if an
-    /// allocation fails, or if there would be more than 2^63 bits; then nothing was changed.
+    /// allocation fails, or if there would be more than 2^63 bits; then nothing was changed. Earlier refusals of reads don't
+    /// matter to it.
     #[inline(always)]
     pub fn put(&mut self, z: u32, t: u64, delta: u16, writer: &mut BitWriter) -> Result<(), Fault>
         requires band { z < length self.old.bands }
         requires number { delta < 2 ^ self.old.bits }
         ensures taken { OnOk result (PutsNumber z t delta self.old writer.old.bits self.new writer.new.bits) }
+        ensures written { OnOk result (writer.new.bits ≡ writer.old.bits ++ code_word (code_by self.old z t) delta) }
+        ensures counted { OnOk result (self.new ≡ counted self.old z t delta) }
         ensures same { OnErr result ((self.new ≡ self.old) × (writer.new.bits ≡ writer.old.bits)) }
         ensures within { 48 ≤ writer.old.room → IsOk result }
         ensures room { OnOk result (writer.old.room ≤ writer.new.room + 48) }
@@ -109,7 +113,8 @@ impl Stats {
     ///
     /// `z` is below the number of bands, and `t` counts the band's numbers from 0. The run is within a row, so it has at most
     /// 65,536 numbers, and each is at most 2^D - 1. Returns `WantOfMemory` if an allocation fails, or if there would be more than
-    /// 2^63 bits; then nothing was changed. It succeeds where the writer has room for 48 bits a number.
+    /// 2^63 bits; then nothing was changed. It succeeds where the writer has room for 48 bits a number. Earlier refusals of reads
+    /// don't matter to it.
     #[inline]
     pub fn put_run(
         &mut self,
@@ -122,6 +127,7 @@ impl Stats {
         requires numbers { AllByRecursion (λ n. n < 2 ^ self.old.bits) numbers.now }
         requires long { (length numbers.now ≤ 2 ^ 16) × (t < 2 ^ 48) }
         ensures taken { OnOk result (PutsRun z t numbers.now self.old writer.old.bits self.new writer.new.bits) }
+        ensures written { OnOk result (WritesRun z t numbers.now self.old writer.old.bits self.new writer.new.bits) }
         ensures same { OnErr result ((self.new ≡ self.old) × (writer.new.bits ≡ writer.old.bits)) }
         ensures within { 48 * length numbers.now ≤ writer.old.room → IsOk result }
         ensures refused { IfErr result (λ e. e ≡ WantOfMemory) }
@@ -145,7 +151,7 @@ impl Stats {
         requires band { z < length self.old.bands }
         requires numbers { AllByRecursion (λ n. n < 2 ^ self.old.bits) numbers.now }
         requires room { 48 * length numbers.now ≤ writer.old.room }
-        ensures taken { (t : ℕ) → 0 < t → PutsRun z t numbers.now self.old writer.old.bits self.new writer.new.bits }
+        ensures written { (t k : ℕ) → 0 < t + k → Writes (λ i. z) (λ i. t + i) k numbers.now self.old writer.old.bits self.new writer.new.bits }
         ensures bands { (length self.new.bands ≡ length self.old.bands) × (self.new.bits ≡ self.old.bits) }
     {
         let run = LaterRun {

@@ -5,7 +5,7 @@ ghost use Rattle.std.specs.List.{AllByRecursion};
 ghost use Rattle.cube_core.specs.declared.fault.Fault.TheVariants.{WantOfMemory};
 ghost use Rattle.header_bits.specs.Bits.{bits_of};
 ghost use Rattle.sample_adaptive.specs.Words.{code_word};
-ghost use Rattle.sample_adaptive.specs.Taken.{Counts, HasSettings, PutsColumn, code_by, counted, of_band, with_band};
+ghost use Rattle.sample_adaptive.specs.Taken.{Counts, HasSettings, PutsColumn, WritesColumn, code_by, counted, of_band, with_band};
 ghost use Rattle.sample_adaptive.specs.Tracked.{IsTracked, AreTracked, statistics_of};
 
 use crate::code_word::{Code, Word, push_both, word_of};
@@ -23,7 +23,8 @@ impl Stats {
     ///
     /// `t` counts each band's numbers from 0, and each number is at most 2^D - 1. At most 65,536 numbers are put, and from `z` on
     /// there are at least as many bands. Returns `WantOfMemory` if an allocation fails, or if there would be more than 2^63 bits;
-    /// then nothing was changed. It succeeds where the writer has room for 48 bits a number.
+    /// then nothing was changed. It succeeds where the writer has room for 48 bits a number. Earlier refusals of reads don't
+    /// matter to it.
     #[inline]
     pub fn put_column(
         &mut self,
@@ -36,6 +37,7 @@ impl Stats {
         requires numbers { AllByRecursion (λ n. n < 2 ^ self.old.bits) numbers.now }
         requires few { length numbers.now ≤ 2 ^ 16 }
         ensures taken { OnOk result (PutsColumn z t numbers.now self.old writer.old.bits self.new writer.new.bits) }
+        ensures written { OnOk result (WritesColumn z t numbers.now self.old writer.old.bits self.new writer.new.bits) }
         ensures same { OnErr result ((self.new ≡ self.old) × (writer.new.bits ≡ writer.old.bits)) }
         ensures within { 48 * length numbers.now ≤ writer.old.room → IsOk result }
         ensures refused { IfErr result (λ e. e ≡ WantOfMemory) }
@@ -67,8 +69,8 @@ fn put_words_of(
     requires few { length numbers.now ≤ 2 ^ 16 }
     requires numbers { AllByRecursion (λ n. n < 2 ^ run.bits) numbers.now }
     requires room { 48 * length numbers.now ≤ writer.old.room }
-    ensures taken { (v : Counts) → v.bands ≡ statistics_of bands.old → HasSettings v run.bits run.limit run.rescaling.size
-        → PutsColumn z t numbers.now v writer.old.bits (record v { bands = statistics_of bands.new }) writer.new.bits }
+    ensures written { (v : Counts) → v.bands ≡ statistics_of bands.old → HasSettings v run.bits run.limit run.rescaling.size
+        → WritesColumn z t numbers.now v writer.old.bits (record v { bands = statistics_of bands.new }) writer.new.bits }
     ensures tracked { AreTracked run bands.new }
     ensures bands { length bands.new ≡ length bands.old }
 {
@@ -95,8 +97,8 @@ fn put_each(
     requires few { length numbers.now ≤ 2 ^ 16 }
     requires numbers { AllByRecursion (λ n. n < 2 ^ run.bits) numbers.now }
     requires room { 48 * length numbers.now ≤ writer.old.room }
-    ensures taken { (v : Counts) (t : ℕ) → first ≡ (t == 0) → v.bands ≡ statistics_of bands.old → HasSettings v run.bits run.limit run.rescaling.size
-        → PutsColumn z t numbers.now v writer.old.bits (record v { bands = statistics_of bands.new }) writer.new.bits }
+    ensures written { (v : Counts) (t : ℕ) → first ≡ (t == 0) → v.bands ≡ statistics_of bands.old → HasSettings v run.bits run.limit run.rescaling.size
+        → WritesColumn z t numbers.now v writer.old.bits (record v { bands = statistics_of bands.new }) writer.new.bits }
     ensures tracked { AreTracked run bands.new }
     ensures bands { length bands.new ≡ length bands.old }
 {

@@ -3,14 +3,14 @@ use Rattle.std.proofs.lemmas.List.{take_all}
 use Rattle.cube_core.proofs.Lists.{each_below}
 use Rattle.sample_adaptive.specs.Statistics.{code_parameter}
 use Rattle.sample_adaptive.specs.Words.{code_word}
-use Rattle.sample_adaptive.proofs.Running.{run_none, run_step, same_band, two_words}
+use Rattle.sample_adaptive.proofs.Running.{same_band, two_words}
+use Rattle.sample_adaptive.proofs.Writing.{run_more}
 use Rattle.sample_adaptive.proofs.run_words.put_words.Goals as goal
 
 pub loop-i-init : goal.loop-i-init
 loop-i-init c =
     record {
-      run = λ v z t within settings own some.
-          rw (same_band v z _ (sym own)) (run_none z t v _);
+      run = λ v z t k within settings own some. rw (same_band v z _ (sym own)) (refl, refl);
       tracked = c.requires.tracked;
       room = omega (arith, c.requires.room);
       within = omega arith;
@@ -27,13 +27,13 @@ loop-i-preserved c =
     let words = two_words c.loop-i.writer.bits c.push_both.new.writer.bits _ _ _ _ c.push_both.ensures.appended c.word_within-first.ensures.word
     c.word_within-second.ensures.word in
     record {
-      run = λ v z t within settings own some.
-          let first = run_step z t i (get_or numbers i 0) v s c.word_within-first.result.1.statistics numbers c.args.writer.bits
+      run = λ v z t k within settings own some.
+          let first = run_more z t k i (get_or numbers i 0) v s c.word_within-first.result.1.statistics numbers c.args.writer.bits
           c.loop-i.writer.bits (c.loop-i.writer.bits
           ++ code_word (record { limit = codes.limit; low = code_parameter codes.bits s; bits = codes.bits }) (get_or numbers i 0))
           within some (omega (arith, c.loop-i-test.true)) refl (rw (settings.umax_is, settings.bits_are) refl)
-          (rw settings.size_is c.word_within-first.ensures.next) (was.run v z t within settings own some) in
-          let both = run_step z t (i + 1) (get_or numbers (i + 1) 0) v c.word_within-first.result.1.statistics c.word_within-second.result.1.statistics numbers
+          (rw settings.size_is c.word_within-first.ensures.next) (was.run v z t k within settings own some) in
+          let both = run_more z t k (i + 1) (get_or numbers (i + 1) 0) v c.word_within-first.result.1.statistics c.word_within-second.result.1.statistics numbers
           c.args.writer.bits _ c.push_both.new.writer.bits
           within some c.loop-i-test.true refl (rw (settings.umax_is, settings.bits_are) words) (rw settings.size_is c.word_within-second.ensures.next) first in
           rw next at both;
@@ -42,19 +42,19 @@ loop-i-preserved c =
       within = omega (arith, c.loop-i-test.true);
     }
 
-pub returns-then-i-numbers-clause-taken : goal.returns-then-i-numbers-clause-taken
-returns-then-i-numbers-clause-taken c = λ v z t within settings own some.
+pub returns-then-i-numbers-clause-written : goal.returns-then-i-numbers-clause-written
+returns-then-i-numbers-clause-written c = λ v z t k within settings own some.
     let all : length c.args.run.numbers.now ≤ c.loop-i.i = omega arith in
-    rw (take_all c.loop-i.i c.args.run.numbers.now all) at (c.loop-i.invariant.run v z t within settings own some)
+    rw (take_all c.loop-i.i c.args.run.numbers.now all) at (c.loop-i.invariant.run v z t k within settings own some)
 
-pub returns-clause-taken : goal.returns-clause-taken
-returns-clause-taken c = λ v z t within settings own some.
+pub returns-clause-written : goal.returns-clause-written
+returns-clause-written c = λ v z t k within settings own some.
     let numbers = c.args.run.numbers.now in
     let lt : c.loop-i.i < length numbers = omega (arith, c.loop-i.invariant.within, c.if-i-numbers.false) in
     let text = c.push_reserved.ensures.appended ∙ ap (λ (bits : List Bool). c.loop-i.writer.bits ++ bits) c.word_within-last.ensures.word in
-    let last = run_step z t _ (get_or numbers c.loop-i.i 0) v _ c.word_within-last.result.1.statistics numbers _ _ c.push_reserved.new.self.bits
+    let last = run_more z t k _ (get_or numbers c.loop-i.i 0) v _ c.word_within-last.result.1.statistics numbers _ _ c.push_reserved.new.self.bits
     within some lt refl (rw (settings.umax_is, settings.bits_are) text) (rw settings.size_is c.word_within-last.ensures.next)
-    (c.loop-i.invariant.run v z t within settings own some) in
+    (c.loop-i.invariant.run v z t k within settings own some) in
     rw (take_all (c.loop-i.i + 1) numbers (omega (arith, c.loop-i-test.false))) at last
 
 pub word_within-first-requires-clause-number : goal.word_within-first-requires-clause-number

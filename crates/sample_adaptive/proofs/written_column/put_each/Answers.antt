@@ -1,11 +1,11 @@
-use Rattle.std.proofs.Common.{◌≡◌, ◌+◌, ◌<◌, ◌++◌, List, Bool, ℕ, length, get_or, set, refl, ap, ◌∙◌, arith}
-use Rattle.std.proofs.lemmas.List.{length-set}
+use Rattle.std.proofs.Common.{◌≡◌, ◌+◌, ◌<◌, ◌≤◌, ◌++◌, List, Bool, ℕ, length, get_or, set, refl, ap, ◌∙◌, arith}
+use Rattle.std.proofs.lemmas.List.{length-set, take_all}
 use Rattle.cube_core.proofs.Lists.{each_below}
 use Rattle.sample_adaptive.specs.declared.tracked.Tracked.{Tracked}
 use Rattle.sample_adaptive.specs.Words.{code_word}
 use Rattle.sample_adaptive.specs.Taken.{Counts, code_by}
 use Rattle.sample_adaptive.specs.Tracked.{statistics_of}
-use Rattle.sample_adaptive.proofs.ColumnsWritten.{puts_start, puts_step, puts_end}
+use Rattle.sample_adaptive.proofs.Writing.{column_more}
 use Rattle.sample_adaptive.proofs.Running.{two_words}
 use Rattle.sample_adaptive.proofs.Tracking.{settings_stay, statistics_at, tracked_set}
 use Rattle.sample_adaptive.proofs.written_column.put_each.Goals as goal
@@ -13,7 +13,7 @@ use Rattle.sample_adaptive.proofs.written_column.put_each.Goals as goal
 pub loop-i-init : goal.loop-i-init
 loop-i-init c =
     record {
-      puts = λ v t is same settings. puts_start c.args.z t v (statistics_of c.args.bands.now) c.args.numbers.now c.args.writer.now.bits same;
+      puts = λ v t is same settings. rw (← same) (refl, refl);
       tracked = c.requires.tracked;
       room = omega (arith, c.requires.room);
       within = omega arith;
@@ -42,10 +42,10 @@ loop-i-preserved c =
           let two = c.next_word-two.ensures.word above (at + 1) t is (settings_stay settings) other in
           let words = two_words c.loop-i.writer.bits c.push_both.new.writer.bits _ _ _ _ c.push_both.ensures.appended one two in
           let begun : List Bool = c.loop-i.writer.bits ++ code_word (code_by old at t) (get_or numbers i 0) in
-          let first = puts_step _ t i (get_or numbers i 0) v bands _ numbers _ _ begun inside (omega (arith, c.loop-i-test.true)) refl refl
+          let first = column_more _ t i (get_or numbers i 0) v bands _ numbers _ _ begun (omega (arith, c.loop-i-test.true)) refl refl
           (c.next_word-one.ensures.counts old at t is (settings_stay settings) own) (was.puts v t is same settings) in
-          let second = puts_step _ t (i + 1) (get_or numbers (i + 1) 0) v mid c.next_word-two.new.tracked numbers _ begun c.push_both.new.writer.bits
-          (rw up higher) c.loop-i-test.true refl (rw up words)
+          let second = column_more _ t (i + 1) (get_or numbers (i + 1) 0) v mid c.next_word-two.new.tracked numbers _ begun c.push_both.new.writer.bits
+          c.loop-i-test.true refl (rw up words)
           (rw up (c.next_word-two.ensures.counts above (at + 1) t is (settings_stay settings) other)) first in
           rw (up, next) at second;
       tracked = tracked_set c.args.run mid (at + 1) c.next_word-two.new.tracked higher c.next_word-two.ensures.tracked
@@ -55,12 +55,13 @@ loop-i-preserved c =
       bands = length-set mid (at + 1) c.next_word-two.new.tracked ∙ length-set bands at c.next_word-one.new.tracked ∙ was.bands;
     }
 
-pub returns-then-i-numbers-clause-taken : goal.returns-then-i-numbers-clause-taken
-returns-then-i-numbers-clause-taken c = λ v t is same settings.
-    puts_end _ t _ v _ _ _ _ (omega arith) (c.loop-i.invariant.puts v t is same settings)
+pub returns-then-i-numbers-clause-written : goal.returns-then-i-numbers-clause-written
+returns-then-i-numbers-clause-written c = λ v t is same settings.
+    let all : length c.args.numbers.now ≤ c.loop-i.i = omega arith in
+    rw (take_all c.loop-i.i c.args.numbers.now all) at (c.loop-i.invariant.puts v t is same settings)
 
-pub returns-clause-taken : goal.returns-clause-taken
-returns-clause-taken c = λ v t is same settings.
+pub returns-clause-written : goal.returns-clause-written
+returns-clause-written c = λ v t is same settings.
     let was = c.loop-i.invariant in
     let numbers = c.args.numbers.now in
     let at : ℕ = c.args.z + c.loop-i.i in
@@ -71,9 +72,9 @@ returns-clause-taken c = λ v t is same settings.
     let own = statistics_at bands at inside in
     let text = c.push_reserved.ensures.appended
     ∙ ap (λ (bits : List Bool). c.loop-i.writer.bits ++ bits) (c.next_word-last.ensures.word old at t is (settings_stay settings) own) in
-    let last = puts_step _ t _ (get_or numbers c.loop-i.i 0) v bands c.next_word-last.new.tracked numbers _ _ _
-    inside lt refl text (c.next_word-last.ensures.counts old at t is (settings_stay settings) own) (was.puts v t is same settings) in
-    puts_end _ t (c.loop-i.i + 1) v (statistics_of (set bands at c.next_word-last.new.tracked)) numbers _ _ (omega (arith, lt)) last
+    let last = column_more _ t _ (get_or numbers c.loop-i.i 0) v bands c.next_word-last.new.tracked numbers _ _ _
+    lt refl text (c.next_word-last.ensures.counts old at t is (settings_stay settings) own) (was.puts v t is same settings) in
+    rw (take_all (c.loop-i.i + 1) numbers (omega (arith, c.loop-i-test.false))) at last
 
 pub returns-clause-tracked : goal.returns-clause-tracked
 returns-clause-tracked c =

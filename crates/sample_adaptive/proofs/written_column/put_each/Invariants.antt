@@ -1,7 +1,6 @@
-use Rattle.std.proofs.Common.{◌≡◌, ◌-◌, ◌*◌, ◌≤◌, ℕ, eqb, length}
-use Rattle.sample_adaptive.specs.Taken.{Counts, HasSettings}
+use Rattle.std.proofs.Common.{◌≡◌, ◌-◌, ◌*◌, ◌≤◌, ℕ, eqb, length, take}
+use Rattle.sample_adaptive.specs.Taken.{Counts, HasSettings, WritesColumn}
 use Rattle.sample_adaptive.specs.Tracked.{AreTracked, statistics_of}
-use Rattle.sample_adaptive.proofs.ColumnsWritten.{PutsTo}
 use Rattle.sample_adaptive.proofs.written_column.put_each.Given as goal
 
 abbrev pub invariant-loop-i : goal.invariant-loop-i
@@ -9,7 +8,7 @@ invariant-loop-i l =
     record {
       puts : (v : Counts) (t : ℕ) → l.fn.first ≡ eqb t 0 → v.bands ≡ statistics_of l.initial.bands
           → HasSettings v l.fn.run.bits l.fn.run.limit l.fn.run.rescaling.size
-          → PutsTo l.fn.z t l.i v (statistics_of l.bands) l.numbers l.initial.writer.bits l.writer.bits;
+          → WritesColumn l.fn.z t (take l.i l.numbers) v l.initial.writer.bits (record v { bands = statistics_of l.bands }) l.writer.bits;
       tracked : AreTracked l.fn.run l.bands;
       room : 48 * (length l.numbers - l.i) ≤ l.writer.room;
       within : l.i ≤ length l.numbers;

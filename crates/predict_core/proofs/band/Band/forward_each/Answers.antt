@@ -7,6 +7,7 @@ pub loop-i-preserved : goal.loop-i-preserved
 loop-i-preserved c =
     let kept = c.loop-i.invariant in let inside : c.loop-i.i < length c.loop-i.residuals = omega (arith, kept.long, c.loop-i-test.true) in record {
       moved = moved_next c.loop-i.i c.args.self.now c.loop-i.self c.forward.new.self kept.moved c.forward.ensures.moved;
+      held = c.forward.ensures.held ∙ kept.held;
       long = rw length-set kept.long;
       bound = bound_next (2 ^ c.args.cube.now.kind.bits) c.loop-i.i c.loop-i.residuals c.forward.result inside c.forward.ensures.bound kept.bound;
       residuals = λ p f. run_next p c.args.cube.now c.args.self.now.band c.args.self.now.t c.loop-i.i c.loop-i.residuals _ inside

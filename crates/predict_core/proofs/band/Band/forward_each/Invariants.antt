@@ -7,6 +7,7 @@ use Rattle.predict_core.proofs.band.Band.forward_each.Given as goal
 abbrev pub invariant-loop-i : goal.invariant-loop-i
 invariant-loop-i l = record {
   moved : MovesBy l.i l.initial.self l.self;
+  held : l.self.piece ≡ l.initial.self.piece;
   long : length l.residuals ≡ length l.initial.residuals;
   bound : (k : ℕ) → k < l.i → slice_index l.residuals k < 2 ^ l.cube.kind.bits;
   residuals : (p : Params) → Follows p l.initial.self l.cube → take l.i l.residuals ≡ run_residuals p l.cube l.initial.self.band l.initial.self.t l.i;

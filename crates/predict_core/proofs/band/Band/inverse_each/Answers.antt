@@ -11,6 +11,7 @@ use Rattle.predict_core.proofs.band.Band.inverse_each.Goals.{After-loop-i}
 pub loop-i-init : goal.loop-i-init
 loop-i-init c = record {
   moved = moved_none c.args.self.now;
+  held = refl;
   beside = beside_none c.args.cube.now c.args.self.now.band c.args.y c.args.x;
   residuals = λ p f. refl;
   follows = λ p f. f;
@@ -32,6 +33,7 @@ loop-i-preserved c =
     rw is
     (record {
       moved = moved_next c.loop-i.i c.args.self.now c.loop-i.self c.inverse_into.new.self kept.moved c.inverse_into.ensures.moved;
+      held = c.inverse_into.ensures.held ∙ kept.held;
       beside = beside_next c.args.cube.now d c.args.self.now.band c.args.y c.args.x c.loop-i.i v place kept.whole kept.beside;
       residuals = λ p f. residuals_next p d c.args.self.now.band c.args.y c.args.x c.loop-i.i v c.args.deltas.now place kept.whole (wide p f)
           c.loop-i-test.true (kept.residuals p f) (rw (is, kept.moved.band, there) at (c.inverse_into.ensures.residual p (kept.follows p f)));

@@ -9,6 +9,7 @@ use Rattle.predict_core.proofs.band.Band.inverse_each.Given as goal
 abbrev pub invariant-loop-i : goal.invariant-loop-i
 invariant-loop-i l = record {
   moved : MovesBy l.i l.initial.self l.self;
+  held : l.self.piece ≡ l.initial.self.piece;
   beside : AreAlikeBeside l.initial.cube l.cube l.initial.self.band l.y l.x l.i;
   residuals : (p : Params) → Follows p l.initial.self l.initial.cube
       → run_residuals p l.cube l.initial.self.band (l.y * l.cube.shape.columns + l.x) l.i ≡ take l.i l.deltas;

@@ -29,5 +29,21 @@ returns-clause-taken c =
     let puts = rw counts at (puts_number c.args.z c.args.t c.args.delta v _ _ c.requires.band text) in
     rw (statistics_set items c.args.z kept, ← c.self.view_is) (rw (← c.self.view_is) at puts)
 
+pub returns-clause-written : goal.returns-clause-written
+returns-clause-written c =
+    let v = c.args.self.now in
+    let own = band_own v c.self.inside.bands.items (bands_seen c.self.view_is) c.args.z c.requires.band c.index.result.now c.index.ensures in
+    c.in_ok-push.ensures.appended
+    ∙ ap (λ (bits : List Bool). c.args.writer.now.bits ++ bits)
+    (c.next_word-word.ensures.word v c.args.z c.args.t refl (settings_seen v _ c.self.view_is) own)
+
+pub returns-clause-counted : goal.returns-clause-counted
+returns-clause-counted c =
+    let v = c.args.self.now in
+    let items = c.self.inside.bands.items in
+    let own = band_own v items (bands_seen c.self.view_is) c.args.z c.requires.band c.index.result.now c.index.ensures in
+    let counts = c.next_word-word.ensures.counts v c.args.z c.args.t refl (settings_seen v _ c.self.view_is) own in
+    rw (counts, statistics_set items c.args.z c.next_word-word.new.tracked, ← c.self.view_is) refl
+
 pub returns-in_err-push-clause-same : goal.returns-in_err-push-clause-same
 returns-in_err-push-clause-same c = search rules

@@ -4,6 +4,7 @@ use Rattle.header_bits.specs.Bits.{Written}
 use Rattle.sample_adaptive.specs.Taken.{Counts}
 use Rattle.sample_adaptive.specs.Tracked.{statistics_of}
 use Rattle.sample_adaptive.proofs.Tracking.{settings_seen, bands_seen, slice_holds, slice_tracked, slice_count}
+use Rattle.sample_adaptive.proofs.Writing.{column_taken}
 use Rattle.sample_adaptive.proofs.stats.Stats.put_column.Goals as goal
 
 pub put_words_of-requires-clause-inside : goal.put_words_of-requires-clause-inside
@@ -23,13 +24,16 @@ returns-clause-bands c =
     let count = slice_count c.args.self.now _ (bands_seen c.self.view_is) c.deref_mut.result.now c.deref_mut.ensures.value _ c.put_words_of.new.bands _
     c.put_words_of.ensures.bands c.deref_mut.ensures.len in (count, ap (λ (v : Counts). v.bits) c.self.view_is)
 
-pub returns-clause-taken : goal.returns-clause-taken
-returns-clause-taken c =
+pub returns-clause-written : goal.returns-clause-written
+returns-clause-written c =
     let settings = settings_seen c.args.self.now _ c.self.view_is in
     let same : c.args.self.now.bands ≡ statistics_of c.deref_mut.result.now =
     ap (λ (v : Counts). v.bands) (sym c.self.view_is) ∙ ap statistics_of (sym c.deref_mut.ensures.value) in
-    let column = c.put_words_of.ensures.taken c.args.self.now same settings in
+    let column = c.put_words_of.ensures.written c.args.self.now same settings in
     let long : length c.put_words_of.new.bands ≡ c.self.inside.bands.len = omega (arith, c.put_words_of.ensures.bands, c.deref_mut.ensures.len) in
     let written : c.replace-ahead.result.bits ≡ c.args.writer.now.bits =
     ap (λ (w : Written). w.bits) c.replace-ahead.ensures.value ∙ c.in_ok-make_room.ensures.same in
     rw (take_at c.put_words_of.new.bands _ c.self.inside.bands.len long, ← c.self.view_is) (rw (written, ← c.self.view_is) at column)
+
+pub returns-clause-taken : goal.returns-clause-taken
+returns-clause-taken c = column_taken c.args.z c.args.t c.args.numbers.now _ _ _ _ c.requires.inside (returns-clause-written c)

@@ -16,10 +16,10 @@ pub returns-clause-bands : goal.returns-clause-bands
 returns-clause-bands c =
     (count_stays c.args.self.now _ (bands_seen c.self.view_is) _ c.requires.band c.replace_with.result, ap (λ (w : Counts). w.bits) c.self.view_is)
 
-pub returns-clause-taken : goal.returns-clause-taken
-returns-clause-taken c = λ t some.
+pub returns-clause-written : goal.returns-clause-written
+returns-clause-written c = λ t k some.
     let v = c.args.self.now in
     let items = c.self.inside.bands.items in
     let own = band_own v items (bands_seen c.self.view_is) c.args.z c.requires.band c.index.result.now c.index.ensures in
-    let run = c.replace_with.ensures.0 v c.args.z t c.requires.band (settings_seen v _ c.self.view_is) own some in
+    let run = c.replace_with.ensures.0 v c.args.z t k c.requires.band (settings_seen v _ c.self.view_is) own some in
     rw (statistics_set items c.args.z c.replace_with.result, ← c.self.view_is) (rw (← c.self.view_is) at run)
