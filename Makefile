@@ -7,7 +7,7 @@ LANES = $(shell awk -v most="$$(nproc)" '/^MemAvailable/ { n = int($$2 / 4000000
 
 SCRIPTS = $(addprefix tests/, command.sh limits.sh options.py sizes.py pipelines.py refused.py guards.py fuzz)
 
-.PHONY: all try show install test attack interop rows bench beside plain $(SCRIPTS)
+.PHONY: all try show install test attack interop rows bench beside polite plain $(SCRIPTS)
 
 # Proves and builds the program and its libraries, as many in parallel as there are processors.
 all:
@@ -52,6 +52,10 @@ rows: all plain
 bench: plain
 	@tools/build.py speed
 	bench/compare
+
+# Compares predictors in threads with one thread, on idle processors and on busy ones.
+polite: all
+	bench/polite
 
 # Compares the program with common compressors, on a scene that resembles one of an imaging spectrometer.
 beside: all plain

@@ -13,11 +13,11 @@ use band_rings::settled::SettledLane;
 use cube_predictors::plan::Plan;
 use lane_workers::feed::Feed;
 use lane_workers::gate::Gate;
+use lane_workers::patience::Patience;
 use lane_workers::ready::Ready;
 use lane_workers::stage::Stage;
 use std::sync::Wait;
 use std::sync::atomic::{AtomicBool, Ordering};
-use std::thread;
 use std::thread::{Scope, Threads};
 
 /// How the weaving ended.
@@ -75,15 +75,15 @@ pub(crate) fn weave<R: Threads + Wait, F: Feed, G: Gate>(
     Woven::Whole
 }
 
-/// Drops the numbers of a worker that wait, and receives those that it sees in their place.
-fn skip_one<F: Feed, G: Gate>(stages: &mut Vec<Stage<F, G>>, q: usize)
+/// Drops the numbers of a worker that wait, and receives those that it sees in their place. Returns whether it saw any.
+fn skip_one<F: Feed, G: Gate>(stages: &mut Vec<Stage<F, G>>, q: usize) -> bool
     requires { q < vec_len stages.old }
     ensures feeds { feeds_of stages.new.items ≡ feeds_of stages.old.items }
     ensures gates { gates_of stages.new.items ≡ gates_of stages.old.items }
     ensures len { vec_len stages.new ≡ vec_len stages.old }
 {
     let stage = &mut stages[q];
-    stage.skip();
+    stage.skip()
 }
 
 /// Drops all that is sent until each worker sends no more.
@@ -97,16 +97,22 @@ pub(crate) fn drain<R: Wait, F: Feed, G: Gate>(
     ensures gates { gates_of stages.new.items ≡ gates_of stages.old.items }
     ensures len { vec_len stages.new ≡ vec_len stages.old }
 {
+    let mut patience = Patience::new();
     'rounds: for _ in rt.forever() {
         let mut is_over = true;
+        let mut is_idle = true;
         for q in 0..stages.len() {
             is_over = overs[q].load(Ordering::SeqCst) && is_over;
-            skip_one(stages, q);
+            is_idle = !skip_one(stages, q) && is_idle;
         }
         if is_over {
             return;
         }
-        thread::yield_now();
+        if is_idle {
+            patience.wait(rt);
+        } else {
+            patience.end();
+        }
     }
     unreachable!()
 }

@@ -4,7 +4,7 @@
 pub mod feed;
 pub mod gate;
 pub mod list_feed;
-mod patience;
+pub mod patience;
 pub mod ready;
 mod room;
 pub mod run_receiver;

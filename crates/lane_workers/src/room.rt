@@ -1,6 +1,6 @@
 //! Numbers that were received and not yet passed on.
 
-ghost use Rattle.std.specs.Prelude.{◌≡◌, ◌<◌, ◌≤◌, [], ◌∷◌, ◌++◌, length, take, IfSome, IfNone};
+ghost use Rattle.std.specs.Prelude.{◌≡◌, ◌<◌, ◌≤◌, [], ◌∷◌, ◌++◌, length, take, IfSome, IfNone, IsTrue};
 ghost use mathlib.Core.List.{IsPrefix};
 
 use band_rings::receiver::LaneReceiver;
@@ -65,6 +65,13 @@ impl Room {
         let number = self.numbers[self.first];
         self.first += 1;
         Some(number)
+    }
+
+    /// Returns whether no number waits.
+    pub(crate) fn is_empty(&self) -> bool
+        ensures { IsTrue result → self.now ≡ [] }
+    {
+        self.first == self.end
     }
 
     /// Fills the room again with what it sees in a lane. Numbers that waited are dropped.

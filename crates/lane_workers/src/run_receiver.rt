@@ -1,6 +1,6 @@
 //! Receivers that take numbers from their lane in runs, and pass them on in runs.
 
-ghost use Rattle.std.specs.Prelude.{◌≡◌, ◌<◌, ◌≤◌, [], ◌∷◌, ◌++◌, length, take, IfSome, IfNone};
+ghost use Rattle.std.specs.Prelude.{◌≡◌, ◌<◌, ◌≤◌, [], ◌∷◌, ◌++◌, length, take, IfSome, IfNone, IsFalse};
 ghost use mathlib.Core.List.{IsPrefix};
 ghost use Rattle.band_rings.specs.Lane.{IsLane};
 
@@ -91,11 +91,13 @@ impl RunReceiver {
         self.room.next()
     }
 
-    /// Drops what waits in the room, and fills it with what it sees in the lane, up to 64 numbers.
-    pub fn skip(&mut self)
+    /// Drops what waits in the room, and fills it with what it sees in the lane, up to 64 numbers. Returns whether it saw any.
+    pub fn skip(&mut self) -> bool
         ensures lane { self.new.lane ≡ self.old.lane }
+        ensures none { IsFalse result → self.new.known ≡ [] }
     {
         self.room.fill(&mut self.receiver);
+        !self.room.is_empty()
     }
 
     /// Brings the two ends of one lane together. What is in the room counts as part of the rest.

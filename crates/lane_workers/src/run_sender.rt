@@ -10,7 +10,6 @@ use crate::waiting::{MOST, Waiting};
 use band_rings::sender::LaneSender;
 use std::marker::Model;
 use std::sync::Wait;
-use std::thread;
 
 /// A sender of runs: of eight numbers, or of as many as the lane has slots if these are fewer.
 ///
@@ -30,6 +29,7 @@ pub struct RunSender<'g, G: Gate> {
     /// How many numbers a run has.
     run: usize,
     stopped: bool,
+    patience: Patience,
 }
 
 impl<'g, G: Gate> Model for RunSender<'g, G> {
@@ -64,6 +64,7 @@ impl<'g, G: Gate> RunSender<'g, G> {
             waiting: Waiting::new(),
             run,
             stopped: false,
+            patience: Patience::new(),
         }
     }
 
@@ -103,6 +104,7 @@ impl<'g, G: Gate> RunSender<'g, G> {
                 &mut self.sender,
                 &mut self.waiting,
                 self.gate,
+                &mut self.patience,
             );
         }
         count
@@ -129,8 +131,17 @@ impl<'g, G: Gate> RunSender<'g, G> {
             mut waiting,
             run: _,
             stopped,
+            mut patience,
         } = self;
-        let whole = !stopped && send_all(rt, predictor, &mut sender, &mut waiting, gate);
+        let whole = !stopped
+            && send_all(
+                rt,
+                predictor,
+                &mut sender,
+                &mut waiting,
+                gate,
+                &mut patience,
+            );
         LaneEnd {
             closed: sender.close(),
             whole,
@@ -145,6 +156,7 @@ fn send_all<R: Wait, G: Gate>(
     sender: &mut LaneSender,
     waiting: &mut Waiting,
     gate: &G,
+    patience: &mut Patience,
 ) -> bool
     requires few { length sender.old.sent + length waiting.old < 2 ^ 64 }
     ensures lane { sender.new.lane ≡ sender.old.lane }
@@ -153,7 +165,7 @@ fn send_all<R: Wait, G: Gate>(
     ensures stopped { IsFalse result → (0 < length waiting.new) × IsTrue (G.may_stop gate.now predictor (length sender.new.sent)) }
 {
     while waiting.count() > 0 {
-        if !send_run(rt, predictor, sender, waiting, gate) {
+        if !send_run(rt, predictor, sender, waiting, gate, patience) {
             return false;
         }
     }
@@ -168,6 +180,7 @@ fn send_run<R: Wait, G: Gate>(
     sender: &mut LaneSender,
     waiting: &mut Waiting,
     gate: &G,
+    patience: &mut Patience,
 ) -> bool
     requires some { 0 < length waiting.old }
     requires few { length sender.old.sent + length waiting.old < 2 ^ 64 }
@@ -179,7 +192,7 @@ fn send_run<R: Wait, G: Gate>(
     let passed = passed(predictor, sender, waiting, gate);
     if passed < waiting.count() {
         for _ in 0..passed {
-            if !send_first(rt, predictor, sender, waiting, gate) {
+            if !send_first(rt, predictor, sender, waiting, gate, patience) {
                 return false;
             }
         }
@@ -190,8 +203,7 @@ fn send_run<R: Wait, G: Gate>(
         return true;
     }
     waiting.come_back();
-    thread::yield_now();
-    send_first(rt, predictor, sender, waiting, gate)
+    send_first(rt, predictor, sender, waiting, gate, patience)
 }
 
 /// Returns how many of the waiting numbers the gate passes, asking it for each until it refuses one.
@@ -216,6 +228,7 @@ fn send_first<R: Wait, G: Gate>(
     sender: &mut LaneSender,
     waiting: &mut Waiting,
     gate: &G,
+    patience: &mut Patience,
 ) -> bool
     requires some { 0 < length waiting.old }
     ensures lane { sender.new.lane ≡ sender.old.lane }
@@ -225,17 +238,17 @@ fn send_first<R: Wait, G: Gate>(
         × IsTrue (G.may_stop gate.now predictor (length sender.new.sent)) }
 {
     let number = waiting.numbers()[0];
-    let mut patience = Patience::new();
     for _ in rt.forever() {
         if !gate.pass(predictor, sender.sent_count(), waiting.turn(0)) {
             return false;
         }
         if sender.try_send(number).is_ok() {
             waiting.drop_first();
+            patience.end();
             return true;
         }
         waiting.first_comes_back();
-        patience.wait();
+        patience.wait(rt);
     }
     unreachable!()
 }

@@ -5,6 +5,7 @@ ghost use Rattle.cube_core.specs.declared.fault.Fault.TheVariants.{SpawnRefused}
 
 use crate::feed::Feed;
 use crate::gate::Gate;
+use crate::patience::Patience;
 use crate::ready::Ready;
 use crate::state::{State, joined};
 use crate::worker::{Ended, start};
@@ -22,6 +23,7 @@ use std::thread::{Scope, Threads};
 #[derive(Drop)]
 pub struct Stage<F: Feed, G: Gate> {
     state: State<F, G>,
+    patience: Patience,
 }
 
 impl<F: Feed, G: Gate> Model for Stage<F, G> {
@@ -55,6 +57,7 @@ impl<F: Feed, G: Gate> Stage<F, G> {
         let worker = start(scope, rt, ready, gate, over)?;
         Ok(Stage {
             state: State::Running(worker),
+            patience: Patience::new(),
         })
     }
 
@@ -73,7 +76,7 @@ impl<F: Feed, G: Gate> Stage<F, G> {
         ensures handed { self.new.handed ≡ self.old.handed ++ take result run.new }
         ensures none { result ≡ 0 → self.new.left ≡ Some [] }
     {
-        self.state.next_run(rt, over, run)
+        self.state.next_run(rt, over, &mut self.patience, run)
     }
 
     /// Waits for the next number, and returns it; `None` once the worker has ended, all that it sent was passed
@@ -84,15 +87,16 @@ impl<F: Feed, G: Gate> Stage<F, G> {
         ensures handed { IfSome result (λ number. self.new.handed ≡ self.old.handed ++ number ∷ []) }
         ensures none { IfNone result ((self.new.left ≡ Some []) × (self.new.handed ≡ self.old.handed)) }
     {
-        self.state.next_one(rt, over)
+        self.state.next_one(rt, over, &mut self.patience)
     }
 
     /// Drops the numbers that wait to be passed on, and receives up to 64 that it sees in their place, so that the worker finds
-    /// free slots. It does nothing once the worker is joined. What then counts as passed on isn't stated.
-    pub fn skip(&mut self)
+    /// free slots. Returns whether it saw any. It does nothing once the worker is joined. What then counts as passed on isn't
+    /// stated.
+    pub fn skip(&mut self) -> bool
         ensures { (self.new.feed ≡ self.old.feed) × (self.new.gate ≡ self.old.gate) }
     {
-        self.state.skip();
+        self.state.skip()
     }
 
     /// Returns how many numbers a stopped worker sent, once all of them were passed on.
@@ -110,7 +114,7 @@ impl<F: Feed, G: Gate> Stage<F, G> {
     pub fn stop<R: Threads>(self, rt: &R) -> Option<u64>
         ensures { IfSome result (λ sent. IsTrue (G.may_stop self.gate (F.predictor self.feed) sent) × (sent < length (F.items self.feed))) }
     {
-        let Stage { state } = self;
+        let Stage { state, patience: _ } = self;
         let ended = joined(rt, state);
         if ended.whole {
             None
@@ -126,7 +130,7 @@ impl<F: Feed, G: Gate> Stage<F, G> {
         ensures handed { self.handed ≡ F.items self.feed }
         ensures lane { result ≡ record { sent = F.items self.feed; received = F.items self.feed; rest = [] } }
     {
-        let Stage { state } = self;
+        let Stage { state, patience: _ } = self;
         let Ended {
             lane,
             whole: _,
@@ -142,7 +146,7 @@ impl<F: Feed, G: Gate> Stage<F, G> {
         requires above { All (λ n. n ≤ most) self.handed → ⊥ }
         ensures { ⊥ }
     {
-        let Stage { state } = self;
+        let Stage { state, patience: _ } = self;
         let Ended {
             lane: _lane,
             whole: _,

@@ -41,6 +41,7 @@ impl<F: Feed, G: Gate> State<F, G> {
         &mut self,
         rt: &R,
         over: &AtomicBool,
+        patience: &mut Patience,
         run: &mut [u16],
     ) -> usize
         requires { 0 < length run.old }
@@ -49,18 +50,18 @@ impl<F: Feed, G: Gate> State<F, G> {
         ensures handed { (standing_of self.new).handed ≡ (standing_of self.old).handed ++ take result run.new }
         ensures none { result ≡ 0 → (standing_of self.new).left ≡ Some [] }
     {
-        let mut patience = Patience::new();
         for _ in rt.forever() {
             let is_over = over.load(Ordering::SeqCst);
             let count = self.seen_run(run);
             if count > 0 {
+                patience.end();
                 return count;
             }
             if is_over {
                 replace_with(self, rt, join);
                 return self.seen_run(run);
             }
-            patience.wait();
+            patience.wait(rt);
         }
         unreachable!()
     }
@@ -82,7 +83,12 @@ impl<F: Feed, G: Gate> State<F, G> {
     /// Waits for the next number, and returns it; `None` once the worker has ended, all that it sent was passed
     /// on, and it was joined.
     #[inline(always)]
-    pub(crate) fn next_one<R: Threads + Wait>(&mut self, rt: &R, over: &AtomicBool) -> Option<u16>
+    pub(crate) fn next_one<R: Threads + Wait>(
+        &mut self,
+        rt: &R,
+        over: &AtomicBool,
+        patience: &mut Patience,
+    ) -> Option<u16>
         ensures same { ((standing_of self.new).feed ≡ (standing_of self.old).feed) × ((standing_of self.new).gate ≡ (standing_of self.old).gate) }
         ensures handed { IfSome result (λ number. (standing_of self.new).handed ≡ (standing_of self.old).handed ++ number ∷ []) }
         ensures none { IfNone result (((standing_of self.new).left ≡ Some []) × ((standing_of self.new).handed ≡ (standing_of self.old).handed)) }
@@ -91,18 +97,20 @@ impl<F: Feed, G: Gate> State<F, G> {
             return Some(number);
         }
         let mut run = [0];
-        if self.next_run(rt, over, &mut run) == 0 {
+        if self.next_run(rt, over, patience, &mut run) == 0 {
             return None;
         }
         Some(run[0])
     }
 
     /// Drops the numbers that wait to be passed on by a running worker, and receives up to 64 that it sees in their place.
-    pub(crate) fn skip(&mut self)
+    /// Returns whether it saw any.
+    pub(crate) fn skip(&mut self) -> bool
         ensures { ((standing_of self.new).feed ≡ (standing_of self.old).feed) × ((standing_of self.new).gate ≡ (standing_of self.old).gate) }
     {
-        if let State::Running(worker) = self {
-            worker.receiver.skip();
+        match self {
+            State::Running(worker) => worker.receiver.skip(),
+            State::Joined(_) => false,
         }
     }
 
