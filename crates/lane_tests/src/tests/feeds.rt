@@ -169,13 +169,30 @@ fn a_number_is_retried_until_the_gate_stops_it(rt: HostRuntime) -> Result<(), Fa
     Ok(())
 }
 
+/// Sends numbers past a gate that receives one whenever it is asked for a number of which at least `from` tries have failed, and
+/// asserts that all are sent and which questions the gate is asked.
+fn asks<R: Wait + Abort>(
+    rt: &R,
+    numbers: &[u16],
+    sender: LaneSender,
+    receiver: LaneReceiver,
+    from: u64,
+    questions: &[(u64, u64, u64)],
+)
+    requires { sender.sent ≡ [] }
+{
+    let gate = Noted::new(TakesOne {
+        receiver: Mutex::new(receiver),
+        from,
+    });
+    let sent = numbers.len() as u64;
+    same_end(rt, run(rt, numbers, sender, &gate), true, sent);
+    assert!(rt; gate.was_asked(questions));
+}
+
 #[test]
 fn first_of_a_refused_run_goes_alone(rt: HostRuntime) -> Result<(), Fail> {
     let (sender, receiver) = lane(rt.alloc(), 8)?;
-    let gate = Noted::new(TakesOne {
-        receiver: Mutex::new(receiver),
-    });
-    same_end(&rt, run(&rt, &MORE, sender, &gate), true, 17);
     let questions = [
         // The first run is sent, and the second is refused,
         (0, 8, 0),
@@ -191,6 +208,63 @@ fn first_of_a_refused_run_goes_alone(rt: HostRuntime) -> Result<(), Fail> {
         (10, 16, 2),
         (16, 17, 1),
     ];
-    assert!(rt; gate.was_asked(&questions));
+    asks(&rt, &MORE, sender, receiver, 1, &questions);
+    Ok(())
+}
+
+#[test]
+fn turns_begin_anew_after_a_refused_run(rt: HostRuntime) -> Result<(), Fail> {
+    let (sender, receiver) = lane(rt.alloc(), 8)?;
+    let questions = [
+        (0, 16, 0),
+        (8, 16, 1),
+        (16, 17, 0),
+        // This run is refused, and is sent whole once its first number has gone alone.
+        (9, 16, 2),
+        (16, 17, 1),
+        // The numbers of the next run haven't been tried yet.
+        (17, 25, 0),
+        (18, 25, 1),
+    ];
+    asks(&rt, &[7; 25], sender, receiver, 1, &questions);
+    Ok(())
+}
+
+#[test]
+fn a_number_that_comes_later_was_not_tried(rt: HostRuntime) -> Result<(), Fail> {
+    // A run has three numbers.
+    let (sender, receiver) = lane(rt.alloc(), 3)?;
+    let questions = [
+        (0, 6, 0),
+        (3, 6, 1),
+        // Number 6 fills up a run whose other numbers were tried before,
+        (6, 7, 0),
+        (4, 6, 2),
+        (6, 7, 1),
+        // and so does number 7.
+        (7, 9, 0),
+        (8, 9, 1),
+    ];
+    asks(&rt, &[7; 9], sender, receiver, 1, &questions);
+    Ok(())
+}
+
+#[test]
+fn a_try_of_the_first_counts_for_it_alone(rt: HostRuntime) -> Result<(), Fail> {
+    let (sender, receiver) = lane(rt.alloc(), 4)?;
+    let questions = [
+        (0, 8, 0),
+        // The first number of a refused run is tried alone, and refused; then the gate receives one.
+        (4, 5, 1),
+        (4, 5, 2),
+        // Of the others one try has failed.
+        (5, 8, 1),
+        (8, 9, 0),
+        (5, 8, 2),
+        (8, 9, 1),
+        (6, 8, 3),
+        (8, 9, 2),
+    ];
+    asks(&rt, &[7; 9], sender, receiver, 2, &questions);
     Ok(())
 }

@@ -23,17 +23,19 @@ impl Gate for StopAt {
     }
 }
 
-/// A gate that stops nobody, and receives a number from the lane whenever a number is tried again.
+/// A gate that stops nobody. Whenever it is asked for a number of which at least `from` tries have failed, it receives a number from
+/// the lane.
 #[derive(Drop)]
 pub(crate) struct TakesOne {
     pub(crate) receiver: Mutex<LaneReceiver>,
+    pub(crate) from: u64,
 }
 
 impl Gate for TakesOne {
     ghost may_stop = { λ _ _ _. false };
 
     fn pass(&self, _predictor: u32, _nth: u64, turn: u64) -> bool {
-        if turn > 0 {
+        if turn >= self.from {
             take_one(&self.receiver);
         }
         true
