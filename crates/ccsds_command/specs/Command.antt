@@ -1,8 +1,9 @@
 -- What the run of a command promises, whichever it is: what its engine does.
-use Rattle.std.specs.Prelude.{◌≡◌, ◌≢◌, ◌⊎◌, false, ℕ, List, Option, Some, None, string_bytes, ⊤, Result, OnOk, IfErr}
+use Rattle.std.specs.Prelude.{◌≡◌, ◌≢◌, ◌⊎◌, false, ℕ, List, Option, Some, None, string_bytes, ⊤, Result, Err, OnOk, IfErr}
 use Rattle.cube_core.specs.declared.fault.Fault.{Fault}
 use Rattle.cube_core.specs.declared.fault.Fault.TheVariants.{Read, WantOfMemory, Write}
 use Rattle.cube_core.specs.Layout.{IsLayout}
+use Rattle.header_bits.specs.Lawful.{IsLawful, params_fault}
 use Rattle.header_bits.specs.declared.params.Params.{Params}
 use Rattle.command_settings.specs.declared.settings.CompressSettings.{CompressSettings}
 use Rattle.command_settings.specs.declared.settings.Settings.{Settings}
@@ -13,7 +14,7 @@ use Rattle.command_devices.specs.Writing.{ToldAsWrite}
 use Rattle.ccsds_command.specs.Compress.{Compresses, IsCompressFault, raw_limit}
 use Rattle.ccsds_command.specs.Expand.{Expands, IsExpandFault}
 use Rattle.ccsds_command.specs.Inspect.{Inspects, IsInspectFault}
-use Rattle.ccsds_command.specs.Piped.{IsPipedFault, MayBePlanned}
+use Rattle.ccsds_command.specs.Piped.{HasNoPlan, IsPipedFault, MayBePlanned}
 use Rattle.ccsds_command.specs.Show.{Shows, IsShowFault, show_limit}
 
 -- the file that a command reads; with no name it is the standard input
@@ -42,6 +43,17 @@ checked_params Show = None
 checked_params (Compress settings from to) = Some settings.params
 checked_params (Expand layout from to) = None
 checked_params Inspect = None
+
+-- why `compress` can have no plan, though its parameters are lawful and it has predictors
+abbrev pub IsUnplanned : Settings → Fault → Type 0
+IsUnplanned Show fault = ⊥
+IsUnplanned (Compress settings from to) fault = IsLawful settings.params × (settings.predictors ≢ 0) × HasNoPlan settings fault
+IsUnplanned (Expand layout from to) fault = ⊥
+IsUnplanned Inspect fault = ⊥
+
+-- why a command is refused before anything is read: its parameters aren't lawful, or it can have no plan
+abbrev pub IsRefusedFirst : Settings → Fault → Type 0
+IsRefusedFirst settings fault = ((p : Params) × (checked_params settings ≡ Some p) × (params_fault p ≡ Err fault)) ⊎ IsUnplanned settings fault
 
 -- raw samples have one byte or two
 abbrev pub HasLayout : Settings → Type 0

@@ -10,7 +10,8 @@ ghost use Rattle.command_words.specs.Words.{Ask, AskForNone};
 ghost use Rattle.command_devices.specs.Devices.{GaveWithin};
 ghost use Rattle.command_devices.specs.Reading.{ToldAsRead};
 ghost use Rattle.command_devices.specs.Writing.{IsWrite};
-ghost use Rattle.ccsds_command.specs.Command.{Does, HasLayout, HasNoEnd, IsFaultOf, IsPlanned, IsUnfilled, Ran, checked_params, limit_of, name_in, name_out};
+ghost use Rattle.ccsds_command.specs.Command.{Does, HasLayout, HasNoEnd, IsFaultOf, IsPlanned, IsRefusedFirst, IsUnfilled, IsUnplanned, Ran};
+ghost use Rattle.ccsds_command.specs.Command.{checked_params, limit_of, name_in, name_out};
 
 use crate::compress::run_compress;
 use crate::expand::run_expand;
@@ -31,7 +32,8 @@ use std::thread::Threads;
 /// Runs the command that words ask for, between the ends that they name.
 ///
 /// Returns `Usage` if they ask for none; `WantOfMemory` if the settings can't be allocated; and, if an end can't be opened,
-/// the refusal of `run_command`. Otherwise it returns the ends with the command's own result.
+/// the refusal of `run_command`. Otherwise it returns the ends with the command's own result. Unlawful parameters and
+/// a plan that there can't be are refused with both ends as they were opened.
 pub fn run_words<R: Threads + Wait + Sync, O: Opener>(
     rt: &R,
     alloc: Global,
@@ -42,6 +44,9 @@ pub fn run_words<R: Threads + Wait + Sync, O: Opener>(
         × O.opens opener.now (name_in settings) s × O.makes opener.now s (name_out settings) k
         × Ran settings (O.Input.left s) (O.Input.failures s) (O.Input.failures ended.input) (O.Output.taken k) (O.Output.taken ended.output)
         (O.Output.failures k) (O.Output.failures ended.output) (O.Output.stalls k) (O.Output.stalls ended.output) ended.answer) }
+    ensures refused_first { IfOk result (λ ended. (settings : Asked) × Ask (map string_bytes words.now) settings
+        × ((fault : Refusal) → IsRefusedFirst settings fault → (ended.answer ≡ Err fault) × O.opens opener.now (name_in settings) ended.input
+        × O.makes opener.now ended.input (name_out settings) ended.output)) }
     ensures refused { IfErr result (λ e. ((e ≡ Usage) × AskForNone (map string_bytes words.now))
         ⊎ ((e ≡ WantOfMemory) ⊎ ((settings : Asked) × Ask (map string_bytes words.now) settings
         × HasNoEnd (O.opens opener.now) (O.has_none opener.now) (O.makes_none opener.now) settings e))) }
@@ -54,6 +59,7 @@ pub fn run_words<R: Threads + Wait + Sync, O: Opener>(
 ///
 /// Returns `Read` if the input can't be opened; then no output was created. Returns `Write` with 0 bytes if the
 /// output can't be created; then nothing was read. Otherwise it returns the ends with the command's own result.
+/// Unlawful parameters and a plan that there can't be are refused with both ends as they were opened.
 pub fn run_command<R: Threads + Wait + Sync, O: Opener>(
     rt: &R,
     alloc: Global,
@@ -68,6 +74,8 @@ pub fn run_command<R: Threads + Wait + Sync, O: Opener>(
     ensures unfilled { IfOk result (λ ended. (s : O.Input) × O.opens opener.now (name_in settings.now) s
         × IfErr ended.answer (IsUnfilled settings.now (O.Input.left s) (O.Input.left ended.input))) }
     ensures planned { IfOk result (λ ended. OnOk ended.answer (IsPlanned settings.now)) }
+    ensures refused_first { IfOk result (λ ended. (fault : Refusal) → IsRefusedFirst settings.now fault → (ended.answer ≡ Err fault)
+        × O.opens opener.now (name_in settings.now) ended.input × O.makes opener.now ended.input (name_out settings.now) ended.output) }
     ensures refused { IfErr result (HasNoEnd (O.opens opener.now) (O.has_none opener.now) (O.makes_none opener.now) settings.now) }
 {
     let mut input = input_of(opener, settings)?;
@@ -110,7 +118,8 @@ fn output_of<O: Opener>(
 
 /// Runs a command between its two ends; `compress` runs in threads where it has predictors.
 ///
-/// The refusals, and what is then written, are those of the command.
+/// The refusals, and what is then written, are those of the command. Unlawful parameters are refused before anything
+/// is read, and then numbers of predictors and slots that no plan may have.
 pub fn run_between<R: Threads + Wait + Sync, S: Source, K: Sink>(
     rt: &R,
     alloc: Global,
@@ -121,6 +130,8 @@ pub fn run_between<R: Threads + Wait + Sync, S: Source, K: Sink>(
     requires { HasLayout settings.now }
     ensures checked { (p : Parameters) (fault : Refusal) → checked_params settings.now ≡ Some p → params_fault p ≡ Err fault
         → (result ≡ Err fault) × (source.new ≡ source.old) × (sink.new ≡ sink.old) }
+    ensures planned_first { (fault : Refusal) → IsUnplanned settings.now fault → (result ≡ Err fault) × (source.new ≡ source.old)
+        × (sink.new ≡ sink.old) }
     ensures done { OnOk result (Does settings.now (S.left source.old) (K.taken sink.old) (K.taken sink.new)) }
     ensures planned { OnOk result (IsPlanned settings.now) }
     ensures refused { IfErr result (IsFaultOf settings.now (S.left source.old) (S.failures source.old) (S.failures source.new) (K.taken sink.old)

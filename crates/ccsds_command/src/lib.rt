@@ -1,4 +1,4 @@
-//! The commands: engines over sources and sinks.
+//! The commands: engines over sources and sinks, the settings that words ask for, and what a refusal prints.
 #![tactic(auto)]
 
 pub mod command;
@@ -8,3 +8,10 @@ pub mod inspect;
 pub mod opener;
 pub mod piped;
 pub mod show;
+
+pub use command_devices::cut::{CutSink, CutSource};
+pub use command_devices::sink::Sink;
+pub use command_devices::source::{Failed, Source};
+pub use command_reports::report::{fault_line, status_of};
+pub use command_settings::settings::{CompressSettings, Settings};
+pub use command_words::words::settings;

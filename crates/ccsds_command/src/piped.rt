@@ -27,11 +27,11 @@ use std::thread::Threads;
 /// Reads a cube's raw bytes, codes the cube with predictors in threads of their own, and writes the file, which
 /// is that of `run_compress`.
 ///
-/// Before anything is read, it refuses unlawful parameters (`FieldRange`, `Disagree`), then numbers of predictors
-/// and slots that no plan may have (`FieldRange` of `Predictors` or `Slots`), and it returns `WantOfMemory` if the
-/// plan can't be allocated. Band z goes to predictor z mod their number. The other refusals are those of
-/// `run_compress`; `SpawnRefused` if a thread wasn't started; and `Stopped` if the gate stopped a predictor. After any
-/// refusal but `Write` nothing was written.
+/// Unlawful parameters are refused before anything is read (`FieldRange`, `Disagree`), and then numbers of predictors
+/// and slots that no plan may have (`FieldRange` of `Predictors` or `Slots`). Band z goes to predictor z mod their
+/// number. The other refusals are those of `run_compress`, where `WantOfMemory` is also that of the plan;
+/// `SpawnRefused` if a thread wasn't started; and `Stopped` if the gate stopped a predictor. After any refusal but
+/// `Write` nothing was written.
 #[tactic(auto, unfolding(crate::specs::Compress::Compresses, crate::specs::Piped::IsPipedFault))]
 pub fn run_piped<R: Threads + Wait + Sync, S: Source, K: Sink, G: Gate + Sync>(
     rt: &R,
@@ -44,6 +44,8 @@ pub fn run_piped<R: Threads + Wait + Sync, S: Source, K: Sink, G: Gate + Sync>(
     requires { IsLayout settings.now.layout }
     ensures checked { (fault : Refusal) → params_fault settings.now.params ≡ Err fault → (result ≡ Err fault) × (source.new ≡ source.old)
         × (sink.new ≡ sink.old) }
+    ensures planned_first { (fault : Refusal) → IsLawful settings.now.params → HasNoPlan settings.now fault → (result ≡ Err fault)
+        × (source.new ≡ source.old) × (sink.new ≡ sink.old) }
     ensures compressed { OnOk result (Compresses settings.now (S.left source.old) (K.taken sink.old) (K.taken sink.new)) }
     ensures may { OnOk result (MayBePlanned settings.now) }
     ensures refused { IfErr result (IsPipedFault G.may_stop gate.now settings.now (S.left source.old) (S.failures source.old) (S.failures source.new)
@@ -60,12 +62,13 @@ pub fn run_piped<R: Threads + Wait + Sync, S: Source, K: Sink, G: Gate + Sync>(
     write_all(sink, &file)
 }
 
-/// Returns the plan of the settings.
+/// Returns the plan of the settings. Its first fault comes before want of memory.
 fn plan_of(alloc: Global, settings: &CompressSettings) -> Result<Plan, Fault>
     requires { IsLawful settings.now.params }
     ensures plan { IfOk result (λ plan. plan ≡ planned settings.now) }
     ensures may { OnOk result (MayBePlanned settings.now) }
     ensures refused { IfErr result (λ e. (e ≡ WantOfMemory) ⊎ HasNoPlan settings.now e) }
+    ensures first { (fault : Refusal) → HasNoPlan settings.now fault → result ≡ Err fault }
 {
     let deal = dealt(alloc, settings)?;
     Plan::new(
@@ -80,7 +83,7 @@ fn plan_of(alloc: Global, settings: &CompressSettings) -> Result<Plan, Fault>
 /// Returns the predictor of each band, where the numbers of predictors and slots are in range; otherwise an empty list.
 fn dealt(alloc: Global, settings: &CompressSettings) -> Result<Vec<u8>, Fault>
     ensures deal { IfOk result (λ deal. deal.items ≡ deal_of settings.now) }
-    ensures refused { IfErr result (λ e. e ≡ WantOfMemory) }
+    ensures refused { IfErr result (λ e. (e ≡ WantOfMemory) × MayBePlanned settings.now) }
 {
     let predictors = settings.predictors;
     let slots = settings.slots;

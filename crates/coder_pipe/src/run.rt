@@ -1,6 +1,6 @@
 //! All workers of a pipeline: started, woven and joined.
 
-ghost use Rattle.std.specs.Prelude.{◌≡◌, ℕ, ◌-◌, ◌<◌, ◌≤◌, ◌⊎◌, [], length, map, All, Some, None, IfSome, IsTrue, vec_len, vec_capacity, slice_index_or};
+ghost use Rattle.std.specs.Prelude.{◌≡◌, ℕ, ◌-◌, ◌<◌, ◌≤◌, ◌⊎◌, [], length, map, All, Some, None, IfSome, IfNone, IsTrue, vec_len, vec_capacity, slice_index_or};
 ghost use Rattle.cube_core.specs.Shape.{sample_count};
 ghost use Rattle.coder_pipe.specs.Piping.{AreFeeds, MayStop, carried};
 ghost use Rattle.coder_pipe.specs.Standings.{feeds_of, gates_of, handed_of, IsWoven};
@@ -184,7 +184,9 @@ pub(crate) fn stop_all<R: Threads, F: Feed, G: Gate>(
 
 /// Returns the stopped predictor with the least number, once predictor `q` has ended.
 fn first_of(first: Option<(u32, u64)>, q: u32, sent: Option<u64>) -> Option<(u32, u64)>
-    ensures { IfSome result (λ r. (first ≡ Some r) ⊎ ((r.0 ≡ q) × (sent ≡ Some r.1))) }
+    ensures from { IfSome result (λ r. (first ≡ Some r) ⊎ ((r.0 ≡ q) × (sent ≡ Some r.1))) }
+    ensures first { IfSome first (λ r. result ≡ Some r) }
+    ensures next { IfNone first (IfSome sent (λ n. result ≡ Some (q, n))) }
 {
     match (first, sent) {
         (None, Some(sent)) => Some((q, sent)),

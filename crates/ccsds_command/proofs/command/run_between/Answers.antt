@@ -63,6 +63,21 @@ returns-in-Expand-clause-planned g c = rw c.in-Expand.is (in_any c.run_expand.re
 pub returns-in-Inspect-clause-planned : goal.returns-in-Inspect-clause-planned
 returns-in-Inspect-clause-planned g c = rw c.in-Inspect.is (in_any c.run_inspect.result tt)
 
+pub returns-in-Show-clause-planned_first : goal.returns-in-Show-clause-planned_first
+returns-in-Show-clause-planned_first g c = rw c.in-Show.is (λ fault none. absurd none)
+
+pub returns-in-Compress-clause-planned_first : goal.returns-in-Compress-clause-planned_first
+returns-in-Compress-clause-planned_first g c = rw c.in-Compress.is (λ fault none. absurd (none.1 c.if-settings-eq0.true))
+
+pub returns-in-Compress-2-clause-planned_first : goal.returns-in-Compress-2-clause-planned_first
+returns-in-Compress-2-clause-planned_first g c = rw c.in-Compress-2.is (λ fault none. c.run_piped.ensures.planned_first fault none.0 none.2)
+
+pub returns-in-Expand-clause-planned_first : goal.returns-in-Expand-clause-planned_first
+returns-in-Expand-clause-planned_first g c = rw c.in-Expand.is (λ fault none. absurd none)
+
+pub returns-in-Inspect-clause-planned_first : goal.returns-in-Inspect-clause-planned_first
+returns-in-Inspect-clause-planned_first g c = rw c.in-Inspect.is (λ fault none. absurd none)
+
 pub returns-in-Compress-clause-checked : goal.returns-in-Compress-clause-checked
 returns-in-Compress-clause-checked g c =
     rw c.in-Compress.is (λ p fault same refuses. c.run_compress.ensures.checked fault (given (λ q. params_fault q ≡ Err fault) _ _ refuses cc))

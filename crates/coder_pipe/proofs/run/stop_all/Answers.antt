@@ -19,7 +19,7 @@ loop-stage-preserved g c =
     record {
       left = h.left;
       count = omega (arith, h.below);
-      first = some_step _ _ _ _ c.first_of-first.ensures was.first (λ r k.
+      first = some_step _ _ _ _ c.first_of-first.ensures.from was.first (λ r k.
           let at = if_some c.stop.result r.1 _ k.1 c.stop.ensures in
           rw k.0 (below, λ f w. rw (gate_at, feed_at) (rw pred at at.0, at.1)));
     }
