@@ -6,17 +6,15 @@ ghost use Rattle.std.specs.Process.{exit_status};
 ghost use Rattle.cube_core.specs.declared.fault.Fault.TheVariants.{WantOfMemory};
 ghost use Rattle.command_reports.specs.Status.{status};
 
-mod system;
-
 use ccsds_command::command::run_words;
 use command_reports::report::{exit_code, fault_line};
+use command_system::system::System;
 use cube_core::fault::Fault;
 use std::env;
 use std::io::{ErrorKind, Write};
 use std::process::ExitCode;
 use std::sync::Wait;
 use std::thread::Threads;
-use system::System;
 
 fn main(rt: HostRuntime) -> ExitCode {
     match run(&rt, &rt) {

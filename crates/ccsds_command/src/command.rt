@@ -16,10 +16,10 @@ ghost use Rattle.ccsds_command.specs.Command.{checked_params, limit_of, name_in,
 use crate::compress::run_compress;
 use crate::expand::run_expand;
 use crate::inspect::run_inspect;
-use crate::opener::{Ended, Opener};
 use crate::piped::run_piped;
 use crate::show::run_show;
 use coder_pipe::OpenGate;
+use command_devices::opener::Opener;
 use command_devices::sink::Sink;
 use command_devices::source::Source;
 use command_settings::settings::Settings;
@@ -28,6 +28,14 @@ use cube_core::fault::Fault;
 use std::alloc::Global;
 use std::sync::Wait;
 use std::thread::Threads;
+
+/// A command that was run: its ends, and its result.
+#[derive(Drop)]
+pub struct Ended<S: Drop, K: Drop> {
+    pub input: S,
+    pub output: K,
+    pub answer: Result<(), Fault>,
+}
 
 /// Runs the command that words ask for, between the ends that they name.
 ///

@@ -5,11 +5,11 @@ pub mod command;
 pub mod compress;
 pub mod expand;
 pub mod inspect;
-pub mod opener;
 pub mod piped;
 pub mod show;
 
 pub use command_devices::cut::{CutSink, CutSource};
+pub use command_devices::opener::Opener;
 pub use command_devices::sink::Sink;
 pub use command_devices::source::{Failed, Source};
 pub use command_reports::report::{fault_line, status_of};

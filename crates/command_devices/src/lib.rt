@@ -1,8 +1,9 @@
-//! The sources and sinks of commands, and bytes read and written whole.
+//! The sources and sinks of commands, what opens them, and bytes read and written whole.
 #![tactic(auto)]
 
 pub mod cut;
 pub mod device;
+pub mod opener;
 pub mod reading;
 pub mod sink;
 pub mod source;

@@ -6,7 +6,7 @@ ghost use Rattle.ccsds_command.specs.Command.{HasLayout};
 use super::support::{ONE_BYTE, TWO_EQUAL_FILE, inspected, two_equal};
 use crate::tests::checks::same;
 use ccsds_command::command::{run_command, run_words};
-use ccsds_command::opener::Opener;
+use command_devices::opener::Opener;
 use command_devices::sink::Sink;
 use command_devices::source::Source;
 use command_devices::stream::{ReaderSource, WriterSink};

@@ -3,8 +3,8 @@
 ghost use Rattle.std.specs.Prelude.{◌≡◌, List, Option, Some, None, ℕ, IfOk, IfErr};
 ghost use Rattle.cube_core.specs.declared.fault.Fault.TheVariants.{Read, Write};
 
-use command_devices::sink::Sink;
-use command_devices::source::Source;
+use crate::sink::Sink;
+use crate::source::Source;
 use cube_core::fault::Fault;
 
 /// Opens the ends of a command: the input and the output, each a standard stream or a file by its name.
@@ -43,12 +43,4 @@ pub trait Opener {
     fn create(&self, input: &Self::Input, name: &str) -> Result<Self::Output, Fault>
         ensures made { IfOk result (makes self.now input.now (Some name.now)) }
         ensures refused { IfErr result (λ e. (e ≡ Write 0) × makes_none self.now input.now name.now) };
-}
-
-/// A command that was run: its ends, and its result.
-#[derive(Drop)]
-pub struct Ended<S: Drop, K: Drop> {
-    pub input: S,
-    pub output: K,
-    pub answer: Result<(), Fault>,
 }

@@ -2,8 +2,8 @@
 
 ghost use Rattle.std.specs.Prelude.{◌≡◌, ⊤};
 
-use ccsds_command::opener::Opener;
 use command_devices::device::{InputDevice, OutputDevice};
+use command_devices::opener::Opener;
 use command_devices::sink::Sink;
 use command_devices::source::Source;
 use command_devices::stream::{ReaderSource, WriterSink};
@@ -14,13 +14,13 @@ use std::os::unix::fs::MetadataExt;
 
 /// The system, reached through the runtime that `main` was given.
 #[derive(Drop)]
-pub(crate) struct System<'a> {
+pub struct System<'a> {
     pub rt: &'a HostRuntime,
 }
 
 /// A command's input: the standard input, or a file.
 #[derive(Drop)]
-pub(crate) enum Reader {
+pub enum Reader {
     Standard(Stdin),
     File(File),
 }
@@ -36,7 +36,7 @@ impl InputDevice for Reader {
 
 /// A command's output: the standard output, or a file.
 #[derive(Drop)]
-pub(crate) enum Writer<'a> {
+pub enum Writer<'a> {
     Standard(Printer<'a, HostRuntime>),
     File(File),
 }
