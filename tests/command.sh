@@ -69,6 +69,16 @@ run 'too few raw bytes' 2 $'ccsds: 14 RawLength 2 1\n' compress $two short out
 holds 'too few raw bytes' out ''
 printf '\xc8\xc8\xc8\xc8' > long
 run 'too many raw bytes' 2 $'ccsds: 14 RawLength 2 3\n' compress $two long out
+# What is read at once grows by 65,536 bytes, so the one byte too many is read alone.
+wide='--columns 65536 --rows 1 --bands 1 --bits 8 --bytes 1'
+head -c 65537 /dev/zero > long
+run 'a byte too many after 65,536' 2 $'ccsds: 14 RawLength 65536 65537\n' compress $wide long out
+head -c 65537 /dev/zero | timeout 60 "$program" compress $wide /dev/stdin out > stdout 2> stderr
+check 'a byte too many after 65,536 in a pipe' 2 $'ccsds: 14 RawLength 65536 65537\n' $?
+{ printf '\0\0\0\1\0\1'; cat long; } | timeout 60 "$program" show > stdout 2> stderr
+check 'a byte too many after 65,536 is shown' 2 $'ccsds: 14 RawLength 65536 65537\n' $?
+head -c 65536 long > wide
+run '65,536 bytes' 0 '' compress $wide wide out
 run 'full mode on one column' 2 $'ccsds: 4 Disagree FullOneColumn\n' \
     compress ${two/ --reduced/} raw out
 run 'neighbour sums on one column' 2 $'ccsds: 4 Disagree NeighbourOneColumn\n' \
@@ -172,6 +182,18 @@ timeout 60 cp to got
 wait "$ran"
 check 'IN and OUT are pipes' 0 '' $?
 holds 'IN and OUT are pipes' got "$file"
+# IN is a pipe and OUT the same one by another name: it isn't opened to write, where it would wait for a reader.
+mkfifo pipe
+timeout 60 cp raw pipe 2> complaint &
+giver=$!
+run 'IN is a pipe, and OUT the same one' 4 $'ccsds: 19 Write 0\n' compress $two pipe ./pipe
+wait "$giver"
+ln -s pipe pipe_link
+timeout 60 cp raw pipe 2> complaint &
+giver=$!
+run 'IN is a pipe, and OUT leads to it' 4 $'ccsds: 19 Write 0\n' compress $two pipe pipe_link
+wait "$giver"
+
 mkfifo slow
 { printf '\xc8'; sleep 0.3; printf '\xc8'; } > slow &
 run 'IN comes in two pieces' 0 '' compress $two slow coded

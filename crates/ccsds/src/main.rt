@@ -6,26 +6,29 @@ ghost use Rattle.std.specs.Process.{exit_status};
 ghost use Rattle.cube_core.specs.declared.fault.Fault.TheVariants.{WantOfMemory};
 ghost use Rattle.command_reports.specs.Status.{status};
 
-use ccsds_command::command::run_words;
+use ccsds_command::command::{Ended, run_words};
 use command_reports::report::{exit_code, fault_line};
 use command_system::system::System;
 use cube_core::fault::Fault;
 use std::env;
 use std::io::{ErrorKind, Write};
 use std::process::ExitCode;
-use std::sync::Wait;
-use std::thread::Threads;
 
 fn main(rt: HostRuntime) -> ExitCode {
-    match run(&rt, &rt) {
-        Ok(()) => ExitCode::SUCCESS,
-        Err(fault) => report(&rt, &fault),
+    let ran = match words(&rt) {
+        Ok(words) => run_words(&rt, rt.alloc(), &System { rt: &rt }, &words),
+        Err(fault) => Err(fault),
+    };
+    match ran {
+        Ok(Ended { answer: Ok(()), .. }) => ExitCode::SUCCESS,
+        Ok(
+            Ended {
+                answer: Err(fault),
+                ..
+            },
+        )
+        | Err(fault) => report(&rt, &fault),
     }
-}
-
-/// Runs the command that the words name, over the system, with the permission to start threads.
-fn run<R: Threads + Wait + Sync>(rt: &HostRuntime, threads: &R) -> Result<(), Fault> {
-    run_words(threads, rt.alloc(), &System { rt }, &words(rt)?)?.answer
 }
 
 /// Returns the words after the program's name. Words that aren't text are `Usage`.

@@ -7,6 +7,7 @@ mod gates;
 mod parallel;
 mod plans;
 mod predicted_files;
+mod slots;
 mod stopped_predictors;
 mod stops;
 mod tables;

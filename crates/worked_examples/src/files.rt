@@ -4,7 +4,7 @@ ghost use Rattle.std.specs.Prelude.{◌≡◌};
 ghost use Rattle.cube_core.specs.Layout.{IsLayout};
 
 use crate::checks::same_bytes;
-use crate::row_parameters::params_of;
+use crate::row_parameters::{layout_of, params_of};
 use crate::row_words::{file_of, header_of, parts_of, samples_of};
 use crate::rows::{
     BLOCK_ROWS, CUBE_A_ROWS, REGISTER_ROWS, RESTRICTED_ROWS, RUN_ROWS, SEGMENT_ROWS, SMALL_ROWS,
@@ -81,12 +81,13 @@ pub(super) fn decodes_to(
 /// Asserts that a row's file is encoded from its cube, and decoded to it.
 fn row_holds(rt: &impl Abort, alloc: Global, row: &str) {
     let [name, settings, samples, header, body] = parts_of(rt, row);
-    let samples = samples_of(rt, alloc, samples);
+    let layout = layout_of(rt, settings);
+    let samples = samples_of(rt, alloc, samples, layout.bytes);
     let file = file_of(rt, alloc, header, body);
-    let written = encoded(rt, alloc, name, settings, BYTES, &samples);
+    let written = encoded(rt, alloc, name, settings, layout, &samples);
     same_bytes(rt, &written, &file, name);
     let header = header_of(rt, alloc, header);
-    decodes_to(rt, alloc, name, &file, &header, BYTES, &samples);
+    decodes_to(rt, alloc, name, &file, &header, layout, &samples);
 }
 
 /// Asserts that the file of each row is encoded from its cube, and decoded to it.
@@ -109,20 +110,6 @@ fn worked_files_are_written_and_read(rt: HostRuntime) {
     rows_hold(&rt, rt.alloc(), RESTRICTED_ROWS);
 }
 
-/// Encodes and decodes the least signed 16-bit sample.
-#[test]
-fn two_bytes_a_sample(rt: HostRuntime) {
-    let alloc = rt.alloc();
-    let name = "two bytes a sample";
-    let layout = Layout { bytes: 2, ..BYTES };
-    let raw = [0x80, 0x00];
-    let file = file_of(&rt, alloc, "7:81", "ff ff");
-    let written = encoded(&rt, alloc, name, "signed=1 bits=16", layout, &raw);
-    same_bytes(&rt, &written, &file, name);
-    let header = header_of(&rt, alloc, "7:81");
-    decodes_to(&rt, alloc, name, &file, &header, layout, &raw);
-}
-
 /// Files that a decoder accepts and an encoder doesn't write. In each row: name, header, the header that an encoder
 /// writes, body and samples.
 const OTHER_SPELLINGS: &str = "\
@@ -138,7 +125,7 @@ fn row_is_read(rt: &impl Abort, alloc: Global, row: &str) {
     let [name, header, chosen, body, samples] = parts_of(rt, row);
     let file = file_of(rt, alloc, header, body);
     let chosen = header_of(rt, alloc, chosen);
-    let samples = samples_of(rt, alloc, samples);
+    let samples = samples_of(rt, alloc, samples, BYTES.bytes);
     decodes_to(rt, alloc, name, &file, &chosen, BYTES, &samples);
 }
 

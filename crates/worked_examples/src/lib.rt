@@ -18,6 +18,8 @@ mod flipped_bits;
 #[cfg(test)]
 mod longest_row;
 #[cfg(test)]
+mod option_costs;
+#[cfg(test)]
 mod plain_bits;
 #[cfg(test)]
 mod predicted_runs;

@@ -1,6 +1,9 @@
 //! Reading the parameters of worked files from words such as `rows=2`.
 
+ghost use Rattle.cube_core.specs.Layout.{IsLayout};
+
 use cube_core::kind::Kind;
+use cube_core::layout::{Layout, RawOrder};
 use cube_core::order::Order;
 use cube_core::shape::Shape;
 use header_bits::params::{Coder, CountStart, Params, WeightStart};
@@ -8,12 +11,13 @@ use header_bits::tables::{ConstantTable, WeightTable};
 use std::alloc::Global;
 use std::process::Abort;
 
-/// The parameters of a worked file for which its row gives no others.
+/// The parameters and the bytes of a raw sample of a worked file for which its row gives no others.
 ///
 /// A depth of 0 stands for band-sequential order. `reduced=1` means reduced mode and column-oriented sums, otherwise
 /// full mode and neighbour-oriented sums. With a reference interval the coder is the block-adaptive one. With a
 /// resolution there is a weight table, such as `weights=-1,2`; `constants=3,0` is an accumulator table.
-const COMMON: &str = "columns=1 rows=1 bands=1 signed=0 bits=8 depth=0 word=1 previous=0 reduced=1 \
+const COMMON: &str =
+    "columns=1 rows=1 bands=1 signed=0 bits=8 bytes=1 depth=0 word=1 previous=0 reduced=1 \
     register=32 omega=13 interval_log=6 vmin=-1 vmax=3 resolution=0 umax=16 constant=3 restricted=0 reference=0";
 
 /// Returns the value of a name in words such as `rows=2`, or an empty string if it has none.
@@ -129,5 +133,20 @@ pub(crate) fn params_of(rt: &impl Abort, alloc: Global, words: &str) -> Params {
             Shape::new(columns, rows, bands).expect(rt, "a shape"),
             Kind::new(signed, bits).expect(rt, "a kind"),
         )
+    }
+}
+
+/// Returns the layout of raw samples of one byte, or of two if the words say so, band after band, the high byte first.
+pub(crate) fn layout_of(rt: &impl Abort, words: &str) -> Layout
+    ensures { IsLayout result }
+{
+    Layout {
+        order: RawOrder::Bsq,
+        bytes: if number(rt, words, "bytes") == 2 {
+            2
+        } else {
+            1
+        },
+        little: false,
     }
 }

@@ -52,21 +52,39 @@ pub(crate) fn numbers_of(rt: &impl Abort, alloc: Global, words: &str) -> Vec<u16
 
 /// Appends the numbers of one word.
 fn append_numbers(rt: &impl Abort, numbers: &mut Vec<u16>, word: &str) {
-    let (count, number) = word.split_once('*').unwrap_or(("1", word));
+    let (count, number) = repeated(rt, word);
     let number = number.parse::<u16>().expect(rt, "a number");
-    for _ in 0..number_of(rt, count) {
+    for _ in 0..count {
         numbers.push(number).expect(rt, "memory");
     }
 }
 
-/// Parses samples of one byte, written in the same way.
-pub(crate) fn samples_of(rt: &impl Abort, alloc: Global, words: &str) -> Vec<u8> {
+/// Returns how often a word's number occurs, and that number: 40 and `128` of `40*128`.
+fn repeated<'a>(rt: &impl Abort, word: &'a str) -> (u32, &'a str) {
+    let (count, number) = word.split_once('*').unwrap_or(("1", word));
+    (number_of(rt, count), number)
+}
+
+/// Parses samples, written in the same way, to raw bytes: one for each sample or two, the high one first.
+pub(crate) fn samples_of(rt: &impl Abort, alloc: Global, words: &str, bytes: u32) -> Vec<u8> {
     let mut samples = Vec::new(alloc);
-    for number in &numbers_of(rt, alloc, words) {
-        let sample = u8::try_from(*number).expect(rt, "a sample");
-        samples.push(sample).expect(rt, "memory");
+    for word in words.split_whitespace() {
+        append_samples(rt, &mut samples, word, bytes);
     }
     samples
+}
+
+/// Appends the raw bytes of the samples of one word.
+fn append_samples(rt: &impl Abort, samples: &mut Vec<u8>, word: &str, bytes: u32) {
+    let (count, sample) = repeated(rt, word);
+    let sample = sample.parse::<i32>().expect(rt, "a sample");
+    let [_, _, high, low] = sample.to_be_bytes();
+    for _ in 0..count {
+        if bytes == 2 {
+            samples.push(high).expect(rt, "memory");
+        }
+        samples.push(low).expect(rt, "memory");
+    }
 }
 
 /// Returns the common header with changed bytes, as in `4:02 16:63 17+e0`; a `+` inserts a byte.

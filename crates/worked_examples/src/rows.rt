@@ -1,13 +1,15 @@
 //! The worked files, one in each row: name, parameters, samples, header and body.
 //!
 //! Parameters and header list what differs from the common ones, each changed byte of the header after its number,
-//! counted from 0. Samples have one byte, band after band; `48*128` stands for 48 samples of 128.
+//! counted from 0. Samples stand band after band; `48*128` stands for 48 samples of 128. Their raw bytes are one for each
+//! sample, or two with `bytes=2`.
 
 /// Files of few samples.
 pub(super) const SMALL_ROWS: &str = "\
 one sample | | 200 | | 90
 two equal samples | rows=2 | 200 200 | 4:02 | 90 80
 two columns | columns=2 | 200 190 | 2:02 | 90 30
+a signed sample of 16 bits | signed=1 bits=16 bytes=2 | -32768 | 7:81 | ff ff
 two bands, each from the middle | bands=2 | 200 201 | 6:02 | 90 92
 the second band from the first | bands=2 previous=1 | 200 201 | 6:02 12:06 | 90 02";
 

@@ -7,9 +7,9 @@ ghost use Rattle.coder_pipe.specs.Piping.{AreFeeds};
 use super::cube_a::plan_by_pixel;
 use super::whole_weave::{Woven, weave_all};
 use crate::tests::checks::{same, same_piped};
-use coder_pipe::OpenGate;
 use coder_pipe::pipeline::{Piped, encode_piped};
 use coder_pipe::plan::Plan;
+use coder_pipe::{Gate, OpenGate};
 use cube_core::fault::Fault;
 use lane_workers::list_feed::ListFeed;
 use std::alloc::Global;
@@ -37,7 +37,7 @@ fn lists(alloc: Global) -> Result<Vec<Vec<u16>>, Fault> {
 /// Weaves these lists by the plan of `plan_by_pixel`.
 fn lists_woven(rt: &impl Abort, alloc: Global) -> Result<Woven, Fault> {
     let lists = lists(alloc)?;
-    weave_all(rt, alloc, &plan_by_pixel(rt, alloc)?, &lists)
+    weave_all(rt, alloc, &plan_by_pixel(rt, alloc, 1)?, &lists)
 }
 
 /// Checks that the two predictors are wanted in turn, and none after the last place.
@@ -72,32 +72,36 @@ fn feeds<'a>(alloc: Global, plan: &Plan, zeros: &'a [u16]) -> Result<Vec<ListFee
     Ok(feeds)
 }
 
-/// Encodes the residuals of these feeds by a plan.
-fn feeds_woven<R: Threads + Wait + Sync + Abort>(
+/// Encodes the residuals of these feeds by a plan, past a gate.
+fn feeds_woven<R: Threads + Wait + Sync + Abort, G: Gate + Sync>(
     rt: &R,
     alloc: Global,
     plan: &Plan,
+    gate: &G,
 ) -> Result<Piped, Fault>
     requires plan { (plan.now.predictors ≡ 2) × (plan.now.deal ≡ 0 ∷ 1 ∷ []) }
     requires image { (plan.now.params.shape ≡ record { columns = 3; rows = 2; bands = 2 }) × (plan.now.params.kind.bits ≡ 8) × (plan.now.params.order ≡ Bi 2) }
 {
     let zeros = [0; 6];
     let feeds = feeds(alloc, plan, &zeros)?;
-    encode_piped(rt, alloc, plan.params(), plan, feeds, &OpenGate)
+    encode_piped(rt, alloc, plan.params(), plan, feeds, gate)
 }
 
-/// Encodes the residuals of these feeds by the plan of `plan_by_pixel`.
-fn feeds_woven_by_pixel<R: Threads + Wait + Sync + Abort>(
+/// Asserts that the pipeline itself weaves these feeds to the file of zeros, with lanes of so many slots and past a gate.
+pub(crate) fn feeds_make_it<R: Threads + Wait + Sync + Abort, G: Gate + Sync>(
     rt: &R,
     alloc: Global,
-) -> Result<Piped, Fault> {
-    feeds_woven(rt, alloc, &plan_by_pixel(rt, alloc)?)
+    slots: u32,
+    gate: &G,
+) -> Result<(), Fault> {
+    let made = feeds_woven(rt, alloc, &plan_by_pixel(rt, alloc, slots)?, gate)?;
+    same_piped(rt, &made, &ZEROS, &[6, 6]);
+    Ok(())
 }
 
 /// Checks that the pipeline weaves these feeds to the same file.
 #[test]
 fn feeds_of_zeros_are_woven(rt: HostRuntime) -> Result<(), Fail> {
-    let made = feeds_woven_by_pixel(&rt, rt.alloc())?;
-    same_piped(&rt, &made, &ZEROS, &[6, 6]);
+    feeds_make_it(&rt, rt.alloc(), 1, &OpenGate)?;
     Ok(())
 }

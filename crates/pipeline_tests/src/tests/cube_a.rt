@@ -5,13 +5,12 @@ ghost use Rattle.cube_core.specs.declared.order.Order.TheVariants.{Bi};
 ghost use Rattle.coder_pipe.specs.Sends.{IsSeen};
 
 use ccsds_command::piped::run_piped;
+use ccsds_command::{CompressSettings, CutSink, CutSource};
 use coder_pipe::Gate;
 use coder_pipe::encode::encode_one;
 use coder_pipe::encode_predicted::encode_predicted;
 use coder_pipe::pipeline::Piped;
 use coder_pipe::plan::Plan;
-use command_devices::cut::{CutSink, CutSource};
-use command_settings::settings::CompressSettings;
 use cube_core::cube::Cube;
 use cube_core::fault::Fault;
 use cube_core::kind::Kind;
@@ -35,7 +34,7 @@ pub(crate) const BY_PIXEL: [u8; 26] = [
 ];
 
 /// The room of a sink, and the size of the pieces in which a command reads and writes.
-const ROOM: usize = 1000;
+pub(crate) const ROOM: usize = 1000;
 
 /// The layout of samples of one byte, band after band.
 pub(crate) const BYTES: Layout = Layout {
@@ -103,14 +102,14 @@ pub(crate) fn plan_of(
     Plan::new(alloc, params, predictors, deal, slots)
 }
 
-/// Returns a plan for cube A interleaved by pixel: two predictors with a band each, and lanes of one slot.
-pub(crate) fn plan_by_pixel(rt: &impl Abort, alloc: Global) -> Result<Plan, Fault>
+/// Returns a plan for cube A interleaved by pixel: two predictors with a band each, and lanes of so many slots.
+pub(crate) fn plan_by_pixel(rt: &impl Abort, alloc: Global, slots: u32) -> Result<Plan, Fault>
     ensures plan { IfOk result (λ plan. (plan.predictors ≡ 2) × (plan.deal ≡ 0 ∷ 1 ∷ [])) }
     ensures shape { IfOk result (λ plan. plan.params.shape ≡ record { columns = 3; rows = 2; bands = 2 }) }
     ensures kind { IfOk result (λ plan. plan.params.kind.bits ≡ 8) }
     ensures order { IfOk result (λ plan. plan.params.order ≡ Bi 2) }
 {
-    plan_of(rt, alloc, &by_pixel(rt), 2, &[0, 1], 1)
+    plan_of(rt, alloc, &by_pixel(rt), 2, &[0, 1], slots)
 }
 
 /// Encodes cube A with the predictors of a plan, past a gate.
@@ -148,23 +147,23 @@ pub(crate) fn compressed<R: Threads + Wait + Sync + Abort, G: Gate + Sync>(
     slots: u32,
     gate: &G,
 ) -> Result<Vec<u8>, Fault> {
-    let mut sink = CutSink::new(alloc, ROOM, ROOM, None)?;
-    compress(rt, alloc, predictors, slots, gate, &mut sink)?;
-    Ok(Vec::from_slice(alloc, sink.taken())?)
+    let mut source = CutSource::new(&SAMPLES, ROOM, None);
+    compressed_from(rt, alloc, predictors, slots, gate, &mut source)
 }
 
-/// Compresses the raw bytes of cube A into a sink.
-fn compress<R: Threads + Wait + Sync + Abort, G: Gate + Sync>(
+/// Returns the file to which the command compresses the cube of a source by the same parameters, past a gate.
+pub(crate) fn compressed_from<R: Threads + Wait + Sync + Abort, G: Gate + Sync>(
     rt: &R,
     alloc: Global,
     predictors: u32,
     slots: u32,
     gate: &G,
-    sink: &mut CutSink,
-) -> Result<(), Fault> {
+    source: &mut CutSource,
+) -> Result<Vec<u8>, Fault> {
     let settings = settings_by_pixel(rt, predictors, slots);
-    let mut source = CutSource::new(&SAMPLES, ROOM, None);
-    run_piped(rt, alloc, &mut source, sink, &settings, gate)
+    let mut sink = CutSink::new(alloc, ROOM, ROOM, None)?;
+    run_piped(rt, alloc, source, &mut sink, &settings, gate)?;
+    Ok(Vec::from_slice(alloc, sink.taken())?)
 }
 
 /// Returns the settings of a command that compresses cube A interleaved by pixel.

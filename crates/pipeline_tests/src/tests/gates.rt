@@ -9,20 +9,9 @@ use std::thread;
 /// How often a gate checks for another predictor before it gives up.
 const MOST_LOOKS: u32 = 10_000_000;
 
-/// A gate that stops predictor 0 at one residual, and predictor 1 at another.
-#[derive(Clone, Copy, Drop)]
-pub(crate) struct StopTwo {
-    pub(crate) first: u64,
-    pub(crate) second: u64,
-}
-
-impl Gate for StopTwo {
-    ghost may_stop = { λ s q n. ((q == 0) && (n == s.first)) || ((q == 1) && (n == s.second)) };
-
-    fn pass(&self, predictor: u32, nth: u64, _turn: u64) -> bool {
-        !((predictor == 0 && nth == self.first) || (predictor == 1 && nth == self.second))
-    }
-}
+/// How many tries to send a residual have failed where its lane is full. Eight residuals are tried together at most, so that
+/// a try of others has counted for it at most seven times.
+const FULL: u64 = 32;
 
 /// A gate that stops a predictor at residual `nth`, once `turn` tries to send it have failed.
 #[derive(Clone, Copy, Drop)]
@@ -30,6 +19,17 @@ pub(crate) struct StopAt {
     pub(crate) predictor: u32,
     pub(crate) nth: u64,
     pub(crate) turn: u64,
+}
+
+impl StopAt {
+    /// Returns a gate that stops a predictor before the first try to send residual `nth`.
+    pub(crate) fn new(predictor: u32, nth: u64) -> StopAt {
+        StopAt {
+            predictor,
+            nth,
+            turn: 0,
+        }
+    }
 }
 
 impl Gate for StopAt {
@@ -40,8 +40,23 @@ impl Gate for StopAt {
     }
 }
 
-/// A gate that holds the first residual of predictor 0 until predictor 1 has failed to send its residual `nth`. It
-/// stops predictor 0 if that takes too long.
+/// A gate that stops a predictor at one residual, and a predictor at another.
+#[derive(Clone, Copy, Drop)]
+pub(crate) struct StopTwo {
+    pub(crate) one: StopAt,
+    pub(crate) other: StopAt,
+}
+
+impl Gate for StopTwo {
+    ghost may_stop = { λ s q n. ((q == s.one.predictor) && (n == s.one.nth)) || ((q == s.other.predictor) && (n == s.other.nth)) };
+
+    fn pass(&self, predictor: u32, nth: u64, turn: u64) -> bool {
+        self.one.pass(predictor, nth, turn) && self.other.pass(predictor, nth, turn)
+    }
+}
+
+/// A gate that holds the first residual of predictor 0 until predictor 1 has failed again and again to send its residual
+/// `nth` alone, which it does where its lane is full of those before it. It stops predictor 0 if that takes too long.
 #[derive(Drop)]
 pub(crate) struct FirstWaits {
     nth: u64,
@@ -62,7 +77,7 @@ impl Gate for FirstWaits {
     ghost may_stop = { λ _ q n. (q == 0) && (n == 0) };
 
     fn pass(&self, predictor: u32, nth: u64, turn: u64) -> bool {
-        if predictor == 1 && nth == self.nth && turn > 0 {
+        if predictor == 1 && nth == self.nth && turn >= FULL {
             self.back.store(true, Ordering::SeqCst);
         }
         predictor != 0 || nth != 0 || is_set_in_time(&self.back)

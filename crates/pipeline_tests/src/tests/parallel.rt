@@ -1,5 +1,6 @@
 //! Tests that predictors run in parallel: at some gates, one predictor waits for what another does.
 
+use super::coding_end::feeds_make_it;
 use super::cube_a::{BY_PIXEL, compressed};
 use super::gates::{FirstWaits, Meeting};
 use super::predicted_files::two_make_it;
@@ -32,6 +33,7 @@ fn gate_first_waits_for_second(rt: HostRuntime) -> Result<(), Fail> {
         let nth = u64::from(slots);
         two_make_it(&rt, rt.alloc(), slots, &FirstWaits::new(nth))?;
         command_makes_it(&rt, rt.alloc(), slots, &FirstWaits::new(nth))?;
+        feeds_make_it(&rt, rt.alloc(), slots, &FirstWaits::new(nth))?;
     }
     Ok(())
 }
@@ -44,6 +46,9 @@ fn gates_meet(rt: HostRuntime) -> Result<(), Fail> {
     assert!(rt; meeting.took_place());
     let meeting = Meeting::new();
     command_makes_it(&rt, rt.alloc(), 1, &meeting)?;
+    assert!(rt; meeting.took_place());
+    let meeting = Meeting::new();
+    feeds_make_it(&rt, rt.alloc(), 1, &meeting)?;
     assert!(rt; meeting.took_place());
     Ok(())
 }

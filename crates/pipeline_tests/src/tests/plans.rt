@@ -1,11 +1,14 @@
 //! Tests of which plans are refused.
 
-use super::cube_a::{by_pixel, compressed, plan_of};
+use super::cube_a::{ROOM, SAMPLES, by_pixel, compressed, compressed_from, plan_of};
 use crate::tests::checks::same;
+use ccsds_command::CutSource;
 use coder_pipe::OpenGate;
 use cube_core::fault::{Fault, Field};
 use std::alloc::Global;
 use std::process::Abort;
+use std::sync::Wait;
+use std::thread::Threads;
 
 /// Returns the fault that a plan for cube A is refused for, if it is.
 fn refusal(
@@ -44,18 +47,43 @@ fn entries_are_checked_before_the_length(rt: HostRuntime) {
     same(&rt, refusal(&rt, rt.alloc(), 1, &[1, 0, 0], 1), band(0));
 }
 
+/// Numbers of predictors and slots that no plan has, and what is refused of them.
+const UNPLANNED: [(u32, u32, Field, i64); 4] = [
+    (0, 0, Field::Predictors, 0),
+    (65, 1, Field::Predictors, 65),
+    (2, 0, Field::Slots, 0),
+    (64, 65_537, Field::Slots, 65_537),
+];
+
 /// Checks that a command reports why its plan is refused.
 #[test]
 fn a_command_without_a_plan_is_refused(rt: HostRuntime) {
-    for (predictors, slots, field, value) in [
-        (0, 0, Field::Predictors, 0),
-        (65, 1, Field::Predictors, 65),
-        (2, 0, Field::Slots, 0),
-        (64, 65_537, Field::Slots, 65_537),
-    ] {
+    for (predictors, slots, field, value) in UNPLANNED {
         let answer = compressed(&rt, rt.alloc(), predictors, slots, &OpenGate);
         same(&rt, answer.err(), range(field, value));
     }
+}
+
+/// Returns the fault of a command whose source fails at its first call.
+fn refusal_without_source<R: Threads + Wait + Sync + Abort>(
+    rt: &R,
+    alloc: Global,
+    predictors: u32,
+    slots: u32,
+) -> Option<Fault> {
+    let mut source = CutSource::new(&SAMPLES, ROOM, Some(0));
+    compressed_from(rt, alloc, predictors, slots, &OpenGate, &mut source).err()
+}
+
+/// Checks that a command refuses its plan before it reads from its source.
+#[test]
+fn a_plan_is_refused_before_anything_is_read(rt: HostRuntime) {
+    for (predictors, slots, field, value) in UNPLANNED {
+        let refusal = refusal_without_source(&rt, rt.alloc(), predictors, slots);
+        same(&rt, refusal, range(field, value));
+    }
+    let refusal = refusal_without_source(&rt, rt.alloc(), 2, 1);
+    same(&rt, refusal, Some(Fault::Read));
 }
 
 /// Returns the fault of a field out of its range.

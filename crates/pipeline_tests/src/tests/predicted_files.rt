@@ -46,10 +46,12 @@ fn each_predictor_has_a_band(rt: HostRuntime) -> Result<(), Fail> {
     Ok(())
 }
 
-/// Deals all bands to the first of two predictors.
+/// Deals all bands to the first of two predictors, with lanes of one slot and of more.
 #[test]
 fn all_bands_to_one(rt: HostRuntime) -> Result<(), Fail> {
-    make_it(&rt, rt.alloc(), 2, &[0, 0], 1, &OpenGate, &[12, 0])?;
+    for slots in [1, 2, 1024] {
+        make_it(&rt, rt.alloc(), 2, &[0, 0], slots, &OpenGate, &[12, 0])?;
+    }
     Ok(())
 }
 

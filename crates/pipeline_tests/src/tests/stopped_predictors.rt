@@ -80,7 +80,7 @@ fn run_first<R: Wait + Abort>(
     requires { sender.sent ≡ [] }
     ensures { IfOk result (λ end. end.closed.lane ≡ sender.lane) }
 {
-    run_plan(rt, alloc, &plan_by_pixel(rt, alloc)?, sender, gate)
+    run_plan(rt, alloc, &plan_by_pixel(rt, alloc, 1)?, sender, gate)
 }
 
 /// Runs predictor 0 by a plan that deals it the first of two bands, and returns how it ended.
