@@ -21,7 +21,7 @@ module _ {w : Written} {was : List Bool} where
 
   pub appends_word : {new : Written} → (held part n bits word : ℕ) → held < 64 → 64 - held ≤ n → bits_of held part ≡ was → length was + n ≤ w.room
       → bits_of 64 word ≡ bits_of held part ++ bits_of (64 - held) (bits / 2 ^ (n - (64 - held))) → new.bits ≡ w.bits ++ bits_of 64 word
-      → w.room ≤ new.room + 64 → Appends w was new (bits_of (n - (64 - held)) bits) (bits_of n bits)
+      → w.room ≡ new.room + 64 → Appends w was new (bits_of (n - (64 - held)) bits) (bits_of n bits)
   appends_word {new} held part n bits word lt le is room filled pushed spent = grind (arith, append_assoc, length-bits_of, two_parts)
 
 -- what an append takes, and what a flush does
@@ -52,7 +52,7 @@ module _ {old new last : Written} {now text : List Bool} where
 -- of all bits some were appended, and some are left
 pub record Goes (old : Written) (was : List Bool) (now : Written) (part whole left : List Bool) : Type 0 where
   pub text : (now.bits ++ part) ++ left ≡ (old.bits ++ was) ++ whole
-  pub room : (extended old was).room + length left ≤ (extended now part).room + length whole
+  pub room : (extended old was).room + length left ≡ (extended now part).room + length whole
   pub fits : length part ≤ now.room
 
 module _ {old : Written} {was : List Bool} where

@@ -29,3 +29,4 @@ pub mod Stored
 pub mod Holds
 pub mod Segmented
 pub mod Stable
+pub mod Growing

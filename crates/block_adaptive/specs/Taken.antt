@@ -1,5 +1,5 @@
 -- What a writer of blocks holds back, and which numbers it has taken.
-use Rattle.std.specs.Prelude.{ℕ, ◌≡◌, ◌+◌, ◌-◌, ◌*◌, ◌%◌, ◌<◌, ◌≤◌, ◌==◌, nat_le, Bool, if◌then◌else◌, List, [], ◌∷◌, ◌++◌, length, replicate}
+use Rattle.std.specs.Prelude.{ℕ, ◌≡◌, ◌+◌, ◌-◌, ◌*◌, ◌%◌, ◌<◌, ◌≤◌, ◌==◌, nat_le, Bool, if◌then◌else◌, List, [], ◌∷◌, ◌++◌, length, max, replicate}
 use Rattle.header_bits.specs.Bits.{Written}
 use Rattle.block_adaptive.specs.declared.options.CodeSet.{CodeSet}
 use Rattle.block_adaptive.specs.Segments.{block_count, filled}
@@ -7,10 +7,15 @@ use Rattle.block_adaptive.specs.DataSets.{CodedDataSet, Block, Run, RestOfSegmen
 use Rattle.block_adaptive.specs.Chosen.{chosen_option, chosen_from, chosen_block_body, is_zero}
 use Rattle.block_adaptive.specs.Laws.{AreBlocks}
 
--- the bits were appended, and took no more than their length of the room
+-- the bits were appended, and took their length of the room
 pub record Writes (old new : Written) (text : List Bool) : Type 0 where
   pub appended : new.bits ≡ old.bits ++ text
-  pub spent : old.room ≤ new.room + length text
+  pub spent : old.room ≡ new.room + length text
+
+-- the memory of a writer grew, if at all, to at most twice the bits that are written now, in whole bytes
+pub record GrowsByNeed (old new : Written) : Type 0 where
+  pub longer : length old.bits ≤ length new.bits
+  pub bounded : length new.bits + new.room ≤ max (length old.bits + old.room) (2 * length new.bits + 7)
 
 -- a writer with bits after it, for which it has room
 abbrev pub extended : Written → List Bool → Written

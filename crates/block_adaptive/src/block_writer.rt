@@ -5,6 +5,7 @@ ghost use Rattle.std.specs.List.{AllByRecursion};
 ghost use Rattle.cube_core.specs.declared.fault.Fault.TheVariants.{WantOfMemory};
 ghost use Rattle.block_adaptive.specs.Settings.{AreForBlocks, IsCutOf, cut_by};
 ghost use Rattle.block_adaptive.specs.Taken.{HasTaken, PutsNumber, PutsAll, EndsBlock, EndsInside, EndsBody, taken_count, packed, ended, data_sets_packed};
+ghost use Rattle.block_adaptive.specs.Taken.{GrowsByNeed};
 ghost use Rattle.block_adaptive.specs.DataSets.{capacity};
 ghost use Rattle.cube_core.specs.Shape.{sample_count};
 
@@ -93,8 +94,8 @@ impl BlockWriter {
     /// Takes the next number, and appends the part of the body that is then known.
     ///
     /// Fewer numbers were taken than all blocks have, and the number is at most 2^D - 1. It allocates only
-    /// where the number ends a block. Returns `WantOfMemory` if the allocation fails, or if there would be more than 2^63 bits;
-    /// then nothing was changed, and the call may be repeated.
+    /// where the number ends a block, and no more than twice the bits written then. Returns `WantOfMemory` if the allocation fails,
+    /// or if there would be more than 2^63 bits; then nothing was changed, and the call may be repeated.
     #[inline]
     pub fn put(&mut self, delta: u16, writer: &mut BitWriter) -> Result<(), Fault>
         requires number { delta < 2 ^ self.old.cut.set.bits }
@@ -102,6 +103,7 @@ impl BlockWriter {
         ensures taken { OnOk result (PutsNumber delta self.old writer.old.bits self.new writer.new.bits) }
         ensures counted { OnOk result (taken_count self.new ≡ taken_count self.old + 1) }
         ensures same { OnErr result ((self.new ≡ self.old) × (writer.new.bits ≡ writer.old.bits)) }
+        ensures grows { GrowsByNeed writer.old writer.new }
         ensures refused { IfErr result (λ e. e ≡ WantOfMemory) }
         ensures memory { IfErr result (λ _. EndsBlock self.old) }
         ensures cut { self.new.cut ≡ self.old.cut }
@@ -118,7 +120,7 @@ impl BlockWriter {
     /// Takes the next numbers, and appends the part of the body that is then known. Returns how many were taken: fewer than all
     /// only where `put` would refuse the number after them, which ends a block. The call may then be repeated with those left.
     ///
-    /// With these, no more numbers are taken than all blocks have, and each is at most 2^D - 1.
+    /// With these, no more numbers are taken than all blocks have, and each is at most 2^D - 1. It allocates as `put` does.
     pub fn put_all(&mut self, numbers: &[u16], writer: &mut BitWriter) -> usize
         requires numbers { AllByRecursion (λ n. n < 2 ^ self.old.cut.set.bits) numbers.now }
         requires more { taken_count self.old + length numbers.now ≤ capacity self.old.cut }
@@ -126,6 +128,7 @@ impl BlockWriter {
         ensures counted { taken_count self.new ≡ taken_count self.old + result }
         ensures most { result ≤ length numbers.now }
         ensures memory { result < length numbers.now → EndsBlock self.new }
+        ensures grows { GrowsByNeed writer.old writer.new }
         ensures cut { self.new.cut ≡ self.old.cut }
     {
         let size = self.size as usize;
@@ -179,6 +182,7 @@ impl BlockWriter {
         ensures counted { taken_count self.new ≡ taken_count self.old + result }
         ensures most { result ≤ length block.now }
         ensures memory { result < length block.now → EndsBlock self.new }
+        ensures grows { GrowsByNeed writer.old writer.new }
         ensures cut { self.new.cut ≡ self.old.cut }
     {
         let most = self.size as usize - 1;
@@ -199,6 +203,7 @@ impl BlockWriter {
         ensures appended { OnOk result (writer.new.bits ≡ writer.old.bits ++ data_sets_packed self.old (self.old.held ++ delta ∷ [])) }
         ensures packed { OnOk result (self.new ≡ packed self.old (self.old.held ++ delta ∷ [])) }
         ensures same { OnErr result ((self.new ≡ self.old) × (writer.new.bits ≡ writer.old.bits)) }
+        ensures grows { GrowsByNeed writer.old writer.new }
         ensures refused { IfErr result (λ e. e ≡ WantOfMemory) }
     {
         let mut block = self.values;
@@ -209,12 +214,14 @@ impl BlockWriter {
 
     /// Ends the body: appends all that is held, with the block begun filled with zeros.
     ///
-    /// All numbers were taken. It allocates only where they end inside a block. Returns `WantOfMemory` if the allocation fails, or
-    /// if there would be more than 2^63 bits; then nothing was changed, and the call may be repeated.
+    /// All numbers were taken. It allocates only where they end inside a block, and no more than twice the bits written then. Returns
+    /// `WantOfMemory` if the allocation fails, or if there would be more than 2^63 bits; then nothing was changed, and the call may
+    /// be repeated.
     pub fn end(&mut self, writer: &mut BitWriter) -> Result<(), Fault>
         ensures ended { OnOk result (EndsBody self.old writer.old.bits writer.new.bits) }
         ensures past { OnOk result (self.new ≡ ended self.old) }
         ensures same { OnErr result ((self.new ≡ self.old) × (writer.new.bits ≡ writer.old.bits)) }
+        ensures grows { GrowsByNeed writer.old writer.new }
         ensures refused { IfErr result (λ e. e ≡ WantOfMemory) }
         ensures memory { IfErr result (λ _. EndsInside self.old) }
     {
@@ -236,6 +243,7 @@ impl BlockWriter {
         ensures appended { OnOk result (writer.new.bits ≡ writer.old.bits ++ data_sets_packed self.old block.now) }
         ensures packed { OnOk result (self.new ≡ packed self.old block.now) }
         ensures same { OnErr result ((self.new ≡ self.old) × (writer.new.bits ≡ writer.old.bits)) }
+        ensures grows { GrowsByNeed writer.old writer.new }
         ensures refused { IfErr result (λ e. e ≡ WantOfMemory) }
     {
         let position = Position {

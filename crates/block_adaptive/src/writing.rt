@@ -7,7 +7,7 @@ ghost use Rattle.header_bits.specs.Bits.{bits_of, fundamental};
 ghost use Rattle.block_adaptive.specs.Options.{IsOption, zero_identifier, identifier, quotient_codes, low_groups, pair_codes, option_text, cost};
 ghost use Rattle.block_adaptive.specs.DataSets.{run_text, run_code, spelled, spelling};
 ghost use Rattle.block_adaptive.specs.Positions.{IsPosition, blocks_from};
-ghost use Rattle.block_adaptive.specs.Taken.{Writes, Appends, rest_of, run_and_block, data_sets_after, zeros_after};
+ghost use Rattle.block_adaptive.specs.Taken.{Writes, Appends, GrowsByNeed, rest_of, run_and_block, data_sets_after, zeros_after};
 
 use crate::choice::{choose, identifier_width, quotients_cost};
 use crate::gathering::{Gathered, low_word, quotient_word};
@@ -165,6 +165,7 @@ fn write_rest(writer: &mut BitWriter, set: &CodeSet, left: u32) -> Result<(), Fa
     requires { (1 ≤ left) × (left ≤ 64) }
     ensures appended { OnOk result (writer.new.bits ≡ writer.old.bits ++ spelled set.now (rest_of left)) }
     ensures same { OnErr result (writer.new.bits ≡ writer.old.bits) }
+    ensures grows { GrowsByNeed writer.old writer.new }
     ensures refused { IfErr result (λ e. e ≡ WantOfMemory) }
 {
     let zeros = if left >= 5 { 4 } else { zeros_of_run(left) };
@@ -189,6 +190,7 @@ fn write_block(
     requires eights { length block.now % 8 ≡ 0 }
     ensures appended { OnOk result (writer.new.bits ≡ writer.old.bits ++ spelling set.now (run_and_block set.now zeros block.now)) }
     ensures same { OnErr result (writer.new.bits ≡ writer.old.bits) }
+    ensures grows { GrowsByNeed writer.old writer.new }
     ensures refused { IfErr result (λ e. e ≡ WantOfMemory) }
 {
     let (choice, cost) = choose(set, block, total);
@@ -226,6 +228,7 @@ pub(crate) fn write_data_sets(
         ++ spelling set.now (data_sets_after set.now (blocks_from position.now) zeros block.now)) }
     ensures held { IfOk result (λ n. n ≡ zeros_after (blocks_from position.now) zeros block.now) }
     ensures same { OnErr result (writer.new.bits ≡ writer.old.bits) }
+    ensures grows { GrowsByNeed writer.old writer.new }
     ensures refused { IfErr result (λ e. e ≡ WantOfMemory) }
 {
     if total != 0 {

@@ -24,6 +24,7 @@ use Rattle.header_bits.proofs.TablePassing.{weight_bound}
 pub record IsWriting (bits : ℕ) (all rest : List ℕ) (old new : Written) : Type 0 where
   pub written : new.bits ++ numbers_text bits rest ≡ old.bits ++ numbers_text bits all
   pub room : old.room + length (numbers_text bits rest) ≤ new.room + length (numbers_text bits all)
+  pub still : new.room ≤ old.room
 
 next_length : (bits v : ℕ) (rest more : List ℕ) → rest ≡ v ∷ more → length (numbers_text bits rest) ≡ bits + length (numbers_text bits more)
 next_length bits v rest more e = ap (λ (x : List ℕ). length (numbers_text bits x)) e ∙ ap length (numbers_text_next bits v more)
@@ -34,12 +35,13 @@ pub writing_enough : (bits v : ℕ) (all rest more : List ℕ) (old new : Writte
 writing_enough bits v all rest more old new e enough h = omega (arith, h.room, enough, next_length bits v rest more e)
 
 pub writing_next : (bits v : ℕ) (all rest more : List ℕ) (old mid new : Written) → rest ≡ v ∷ more → IsWriting bits all rest old mid
-    → new.bits ≡ mid.bits ++ bits_of bits v → mid.room ≤ new.room + bits → IsWriting bits all more old new
-writing_next bits v all rest more old mid new e h appended room = record {
+    → new.bits ≡ mid.bits ++ bits_of bits v → mid.room ≤ new.room + bits → new.room ≤ mid.room → IsWriting bits all more old new
+writing_next bits v all rest more old mid new e h appended room still = record {
   written = ap (λ (x : List Bool). x ++ numbers_text bits more) appended ∙ append_assoc mid.bits (bits_of bits v) (numbers_text bits more)
       ∙ ap (λ (x : List Bool). mid.bits ++ x) (sym (numbers_text_next bits v more))
       ∙ ap (λ (x : List ℕ). mid.bits ++ numbers_text bits x) (sym e) ∙ h.written;
   room = omega (arith, h.room, room, next_length bits v rest more e);
+  still = omega (arith, h.still, still);
 }
 
 none_left : (bits : ℕ) (rest : List ℕ) → rest ≡ [] → numbers_text bits rest ≡ []

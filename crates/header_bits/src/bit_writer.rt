@@ -1,6 +1,6 @@
 //! Writing bits to the end of growing bytes.
 
-ghost use Rattle.std.specs.Prelude.{◌≡◌, ◌+◌, ◌-◌, ◌*◌, ◌/◌, ◌%◌, ◌^◌, ◌<◌, ◌≤◌, ◌++◌, [], length, max, vec_len, vec_capacity, IsOk, IsTrue, IfErr, OnOk};
+ghost use Rattle.std.specs.Prelude.{◌≡◌, ◌+◌, ◌-◌, ◌*◌, ◌/◌, ◌%◌, ◌^◌, ◌<◌, ◌≤◌, ◌++◌, [], length, max, min, vec_len, vec_capacity, IsOk, IsTrue, IfErr, OnOk};
 ghost use Rattle.std.specs.Prelude.{OnErr};
 ghost use Rattle.cube_core.specs.declared.fault.Fault.TheVariants.{WantOfMemory};
 ghost use Rattle.header_bits.specs.Bits.{bits_of, bits_of_bytes};
@@ -45,9 +45,10 @@ impl Model for BitWriter {
 }
 
 impl BitWriter {
-    /// Returns a writer without bits.
+    /// Returns a writer without bits, and without memory for any.
     pub fn new(alloc: Global) -> BitWriter
-        ensures { result.bits ≡ [] }
+        ensures bits { result.bits ≡ [] }
+        ensures room { result.room ≡ 0 }
     {
         BitWriter {
             bytes: Vec::new(alloc),
@@ -69,13 +70,15 @@ impl BitWriter {
     /// whatever is returned.
     ///
     /// Where there is less room, it grows to these bits, filled up to whole bytes, or to as many bits as are written
-    /// if these are more, and no further. Returns `WantOfMemory` if the allocation fails, or if there would be more than 2^63 bits.
+    /// if these are more, and no further; else it stays as it is. Returns `WantOfMemory` if the allocation fails, or if there would be more than 2^63 bits.
     #[inline(never)]
     pub fn reserve(&mut self, bits: u64) -> Result<(), Fault>
         ensures same { self.new.bits ≡ self.old.bits }
         ensures kept { self.old.room ≤ self.new.room }
         ensures room { OnOk result (bits ≤ self.new.room) }
         ensures bounded { self.new.room ≤ max self.old.room (max (bits + 7) (length self.old.bits)) }
+        ensures still { bits ≤ self.old.room → self.new.room ≡ self.old.room }
+        ensures failed { OnErr result (self.new.room ≡ self.old.room) }
         ensures within { bits ≤ self.old.room → IsOk result }
         ensures refused { IfErr result (λ e. e ≡ WantOfMemory) }
     {
@@ -90,9 +93,9 @@ impl BitWriter {
 
     /// Appends a number as `n` bits, the most significant first.
     ///
-    /// `n` is at most 64, and the number below 2^n. A push within the room succeeds. Returns `WantOfMemory` if
-    /// an allocation fails, or if there would be more than 2^63 bits; the bits are then as before, and the room
-    /// is no smaller.
+    /// `n` is at most 64, and the number below 2^n. A push within the room succeeds and allocates nothing; another allocates
+    /// no more than `reserve` would. Returns `WantOfMemory` if an allocation fails, or if there would be more than 2^63 bits; the
+    /// bits are then as before, and the room is no smaller.
     #[inline(always)]
     pub fn push(&mut self, bits: u64, n: u32) -> Result<(), Fault>
         requires few { n ≤ 64 }
@@ -102,6 +105,8 @@ impl BitWriter {
         ensures kept { OnErr result (self.old.room ≤ self.new.room) }
         ensures within { n ≤ self.old.room → IsOk result }
         ensures room { OnOk result (self.old.room ≤ self.new.room + n) }
+        ensures bounded { self.new.room ≤ max self.old.room (max (n + 7) (length self.old.bits)) }
+        ensures still { n ≤ self.old.room → self.new.room + n ≡ self.old.room }
         ensures refused { IfErr result (λ e. e ≡ WantOfMemory) }
     {
         if self.held + n < self.ready {
@@ -125,6 +130,7 @@ impl BitWriter {
         ensures kept { self.old.room ≤ self.new.room }
         ensures room { IsTrue result → bits ≤ self.new.room }
         ensures bounded { self.new.room ≤ max self.old.room (max (bits + 7) (length self.old.bits)) }
+        ensures still { bits ≤ self.old.room → self.new.room ≡ self.old.room }
         ensures within { bits ≤ self.old.room → IsTrue result }
     {
         self.reserve(u64::from(bits)).is_ok()
@@ -139,7 +145,7 @@ impl BitWriter {
         requires below { bits < 2 ^ n }
         requires room { n ≤ self.old.room }
         ensures appended { self.new.bits ≡ self.old.bits ++ bits_of n bits }
-        ensures room { self.old.room ≤ self.new.room + n }
+        ensures room { self.old.room ≡ self.new.room + n }
     {
         let free = 64 - self.held;
         if n < free {
@@ -155,10 +161,11 @@ impl BitWriter {
         }
     }
 
-    /// Returns the bytes. The number of bits is a multiple of 8. It allocates nothing.
+    /// Returns the bytes, in the memory that the writer has. The number of bits is a multiple of 8. It allocates nothing.
     pub fn into_bytes(self) -> Vec<u8>
         requires { length self.bits % 8 ≡ 0 }
-        ensures { bits_of_bytes result.items ≡ self.bits }
+        ensures bytes { bits_of_bytes result.items ≡ self.bits }
+        ensures memory { min (8 * vec_capacity result) (2 ^ 63) ≡ length self.bits + self.room }
     {
         let BitWriter {
             mut bytes,
@@ -179,6 +186,8 @@ fn grow(bytes: &mut Vec<u8>, more: usize) -> Result<(), AllocError>
     ensures kept { vec_capacity bytes.old ≤ vec_capacity bytes.new }
     ensures room { OnOk result (vec_len bytes.new + more ≤ vec_capacity bytes.new) }
     ensures bounded { vec_capacity bytes.new ≤ max (vec_capacity bytes.old) (vec_len bytes.old + max more (vec_len bytes.old)) }
+    ensures still { vec_len bytes.old + more ≤ vec_capacity bytes.old → vec_capacity bytes.new ≡ vec_capacity bytes.old }
+    ensures failed { OnErr result (vec_capacity bytes.new ≡ vec_capacity bytes.old) }
     ensures within { vec_len bytes.old + more ≤ vec_capacity bytes.old → IsOk result }
 {
     let len = bytes.len();
@@ -224,7 +233,7 @@ fn append_word(bytes: &mut Vec<u8>, word: u64)
     requires room { vec_len bytes.old + 8 ≤ vec_capacity bytes.old }
     ensures bits { bits_of_bytes bytes.new.items ≡ bits_of_bytes bytes.old.items ++ bits_of 64 word }
     ensures len { vec_len bytes.new ≡ vec_len bytes.old + 8 }
-    ensures capacity { vec_capacity bytes.old ≤ vec_capacity bytes.new }
+    ensures capacity { vec_capacity bytes.new ≡ vec_capacity bytes.old }
 {
     // Byte by byte: a call that may grow the bytes would keep the writer out of registers.
     let eight = word.to_be_bytes();
@@ -238,12 +247,13 @@ fn append_part(bytes: &mut Vec<u8>, part: u64, held: u32)
     requires held { held < 64 }
     requires whole { held % 8 ≡ 0 }
     requires room { 8 * vec_len bytes.old + held ≤ 8 * vec_capacity bytes.old }
-    ensures { bits_of_bytes bytes.new.items ≡ bits_of_bytes bytes.old.items ++ bits_of held part }
+    ensures bits { bits_of_bytes bytes.new.items ≡ bits_of_bytes bytes.old.items ++ bits_of held part }
+    ensures capacity { vec_capacity bytes.new ≡ vec_capacity bytes.old }
 {
     if held > 0 {
         let word = (part << (64 - held)).to_be_bytes();
-        bytes
-            .extend_from_slice(&word[..(held / 8) as usize])
-            .unwrap();
+        for i in 0..(held / 8) as usize {
+            bytes.push_reserved(word[i]);
+        }
     }
 }

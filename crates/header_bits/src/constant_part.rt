@@ -125,6 +125,7 @@ pub(crate) fn put(params: &Params, writer: &mut BitWriter)
     requires room { length (constant_bits params.now.coder) ≤ writer.old.room }
     ensures bits { writer.new.bits ≡ writer.old.bits ++ constant_bits params.now.coder }
     ensures room { writer.old.room ≤ writer.new.room + length (constant_bits params.now.coder) }
+    ensures still { writer.new.room ≤ writer.old.room }
 {
     let Coder::Sample { start, .. } = &params.coder else {
         return;
@@ -142,6 +143,7 @@ fn put_constants(constants: &[u8], writer: &mut BitWriter)
     requires room { length (numbers_text 4 constants.now) ≤ writer.old.room }
     ensures bits { writer.new.bits ≡ writer.old.bits ++ numbers_text 4 constants.now }
     ensures room { writer.old.room ≤ writer.new.room + length (numbers_text 4 constants.now) }
+    ensures still { writer.new.room ≤ writer.old.room }
 {
     for constant in constants {
         writer.push(u64::from(*constant), WIDTH).unwrap();

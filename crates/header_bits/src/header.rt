@@ -1,6 +1,6 @@
 //! The whole header, written and read.
 
-ghost use Rattle.std.specs.Prelude.{◌≡◌, ◌⊎◌, ◌||◌, ◌+◌, ◌*◌, ◌%◌, ◌^◌, ◌<◌, ◌≤◌, ◌++◌, true, length, take, IsOk, IfOk, IfErr, OnOk, OnErr};
+ghost use Rattle.std.specs.Prelude.{◌≡◌, ◌⊎◌, ◌||◌, ◌+◌, ◌*◌, ◌%◌, ◌^◌, ◌<◌, ◌≤◌, ◌++◌, true, length, take, min, max, vec_capacity, IsOk, IfOk, IfErr, OnOk, OnErr};
 ghost use Rattle.cube_core.specs.declared.fault.Fault.TheVariants.{WantOfMemory};
 ghost use Rattle.header_bits.specs.Bits.{bits_of_bytes};
 ghost use Rattle.header_bits.specs.Reading.{Reads};
@@ -25,11 +25,12 @@ use std::alloc::Global;
 
 /// Returns the header of lawful parameters, in whole bytes (CCSDS 123.0-B-1, "Header").
 ///
-/// Under band sequential order the depth is written as zeros. Returns `WantOfMemory` if the bytes can't be
-/// allocated.
+/// Under band sequential order the depth is written as zeros. It allocates at most twice the header's length. Returns
+/// `WantOfMemory` if the bytes can't be allocated.
 pub fn write_header(alloc: Global, params: &Params) -> Result<Vec<u8>, Fault>
     requires { IsLawful params.now }
     ensures header { IfOk result (λ bytes. bits_of_bytes bytes.items ≡ header_of params.now) }
+    ensures bounded { IfOk result (λ bytes. min (8 * vec_capacity bytes) (2 ^ 63) ≤ 2 * length (header_of params.now) + 7) }
     ensures refused { IfErr result (λ e. e ≡ WantOfMemory) }
 {
     let mut writer = BitWriter::new(alloc);
@@ -39,7 +40,8 @@ pub fn write_header(alloc: Global, params: &Params) -> Result<Vec<u8>, Fault>
 
 /// Appends the header of lawful parameters to the bits of a writer: 152 bits and its tables, each in its place, in whole bytes.
 ///
-/// It succeeds within the writer's room. Returns `WantOfMemory` if an allocation fails, or if there would be more than 2^63 bits;
+/// It succeeds within the writer's room, and allocates for the header's length or for as many bits again as are written, and no
+/// more. Returns `WantOfMemory` if an allocation fails, or if there would be more than 2^63 bits;
 /// the bits are then as before, and the room is no smaller.
 pub fn put_header(params: &Params, writer: &mut BitWriter) -> Result<(), Fault>
     requires { IsLawful params.now }
@@ -48,6 +50,7 @@ pub fn put_header(params: &Params, writer: &mut BitWriter) -> Result<(), Fault>
     ensures same { OnErr result (writer.new.bits ≡ writer.old.bits) }
     ensures kept { OnErr result (writer.old.room ≤ writer.new.room) }
     ensures within { length (header_of params.now) ≤ writer.old.room → IsOk result }
+    ensures bounded { writer.new.room ≤ max writer.old.room (max (length (header_of params.now) + 7) (length writer.old.bits)) }
     ensures room { OnOk result (writer.old.room ≤ writer.new.room + length (header_of params.now)) }
     ensures refused { IfErr result (λ e. e ≡ WantOfMemory) }
 {
@@ -220,6 +223,7 @@ fn put_coder(part: CoderPart, writer: &mut BitWriter) -> Result<(), Fault>
     ensures bits { OnOk result (writer.new.bits ≡ writer.old.bits ++ spelled (coder_fields part) (coder_numbers part)) }
     ensures within { 16 ≤ writer.old.room → IsOk result }
     ensures room { OnOk result (writer.old.room ≤ writer.new.room + 16) }
+    ensures still { OnOk result (16 ≤ writer.old.room → writer.new.room ≤ writer.old.room) }
     ensures refused { IfErr result (λ e. e ≡ WantOfMemory) }
 {
     match part {

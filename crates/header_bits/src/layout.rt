@@ -102,6 +102,7 @@ pub(crate) fn write_values(
     ensures bits { OnOk result (writer.new.bits ≡ writer.old.bits ++ spelled slots.now values.now) }
     ensures within { total slots.now ≤ writer.old.room → IsOk result }
     ensures room { OnOk result (writer.old.room ≤ writer.new.room + total slots.now) }
+    ensures still { OnOk result (total slots.now ≤ writer.old.room → writer.new.room ≤ writer.old.room) }
     ensures refused { IfErr result (λ e. e ≡ WantOfMemory) }
 {
     for i in 0..slots.len() {

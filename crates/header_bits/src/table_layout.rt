@@ -58,6 +58,7 @@ pub(crate) fn put_fill(bits: u64, writer: &mut BitWriter)
     requires room { fill_of bits ≤ writer.old.room }
     ensures bits { writer.new.bits ≡ writer.old.bits ++ bits_of (fill_of bits) 0 }
     ensures room { writer.old.room ≤ writer.new.room + fill_of bits }
+    ensures still { writer.new.room ≤ writer.old.room }
 {
     writer.push(0, fill_of(bits)).unwrap();
 }

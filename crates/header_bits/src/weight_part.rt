@@ -186,6 +186,7 @@ pub(crate) fn put(params: &Params, writer: &mut BitWriter)
     requires room { length (weight_bits params.now.start) ≤ writer.old.room }
     ensures bits { writer.new.bits ≡ writer.old.bits ++ weight_bits params.now.start }
     ensures room { writer.old.room ≤ writer.new.room + length (weight_bits params.now.start) }
+    ensures still { writer.new.room ≤ writer.old.room }
 {
     if let WeightStart::Table { q, values } = &params.start {
         let weights = values.as_slice();
@@ -201,6 +202,7 @@ fn put_weights(weights: &[i32], bits: u32, writer: &mut BitWriter)
     requires room { length (numbers_text bits (map (signed_code bits) weights.now)) ≤ writer.old.room }
     ensures bits { writer.new.bits ≡ writer.old.bits ++ numbers_text bits (map (signed_code bits) weights.now) }
     ensures room { writer.old.room ≤ writer.new.room + length (numbers_text bits (map (signed_code bits) weights.now)) }
+    ensures still { writer.new.room ≤ writer.old.room }
 {
     for weight in weights {
         writer.push(signed_code(bits, *weight), bits).unwrap();

@@ -68,6 +68,7 @@ pub(crate) fn push_both(first: Word, second: Word, writer: &mut BitWriter)
     requires room { first.length + second.length ≤ writer.old.room }
     ensures appended { writer.new.bits ≡ writer.old.bits ++ bits_of first.length first.bits ++ bits_of second.length second.bits }
     ensures room { writer.old.room ≤ writer.new.room + first.length + second.length }
+    ensures still { writer.new.room ≤ writer.old.room }
 {
     let length = first.length + second.length;
     if length <= 64 {

@@ -39,6 +39,7 @@ pub(crate) fn put_words(writer: BitWriter, run: LaterRun) -> (BitWriter, Tracked
         → of_band v.bands z ≡ run.entry.tracked.statistics → 0 < t + k
         → Writes (λ i. z) (λ i. t + i) k run.entry.numbers.now v writer.bits (with_band v z result.1.statistics) result.0.bits }
     ensures tracked { IsTracked run.entry.codes result.1 }
+    ensures still { result.0.room ≤ writer.room }
 {
     let mut writer = writer;
     let mut tracked = run.tracked;

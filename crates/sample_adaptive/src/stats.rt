@@ -99,6 +99,8 @@ impl Stats {
         ensures same { OnErr result ((self.new ≡ self.old) × (writer.new.bits ≡ writer.old.bits)) }
         ensures within { 48 ≤ writer.old.room → IsOk result }
         ensures room { OnOk result (writer.old.room ≤ writer.new.room + 48) }
+        ensures bounded { writer.new.room ≤ max writer.old.room (max (48 + 7) (length writer.old.bits)) }
+        ensures still { 48 ≤ writer.old.room → writer.new.room ≤ writer.old.room }
         ensures refused { IfErr result (λ e. e ≡ WantOfMemory) }
         ensures bands { (length self.new.bands ≡ length self.old.bands) × (self.new.bits ≡ self.old.bits) }
     {
@@ -130,6 +132,7 @@ impl Stats {
         ensures written { OnOk result (WritesRun z t numbers.now self.old writer.old.bits self.new writer.new.bits) }
         ensures same { OnErr result ((self.new ≡ self.old) × (writer.new.bits ≡ writer.old.bits)) }
         ensures within { 48 * length numbers.now ≤ writer.old.room → IsOk result }
+        ensures bounded { writer.new.room ≤ max writer.old.room (max (48 * length numbers.now + 7) (length writer.old.bits)) }
         ensures refused { IfErr result (λ e. e ≡ WantOfMemory) }
         ensures bands { (length self.new.bands ≡ length self.old.bands) × (self.new.bits ≡ self.old.bits) }
     {
@@ -151,6 +154,7 @@ impl Stats {
         requires band { z < length self.old.bands }
         requires numbers { AllByRecursion (λ n. n < 2 ^ self.old.bits) numbers.now }
         requires room { 48 * length numbers.now ≤ writer.old.room }
+        ensures still { writer.new.room ≤ writer.old.room }
         ensures written { (t k : ℕ) → 0 < t + k → Writes (λ i. z) (λ i. t + i) k numbers.now self.old writer.old.bits self.new writer.new.bits }
         ensures bands { (length self.new.bands ≡ length self.old.bands) × (self.new.bits ≡ self.old.bits) }
     {

@@ -1,6 +1,6 @@
 //! Columns of code words, written: one number of each of several bands.
 
-ghost use Rattle.std.specs.Prelude.{◌≡◌, ◌+◌, ◌*◌, ◌^◌, ◌<◌, ◌≤◌, ◌==◌, length, IsOk, IfErr, OnOk, OnErr, ℕ};
+ghost use Rattle.std.specs.Prelude.{◌≡◌, ◌+◌, ◌*◌, ◌^◌, ◌<◌, ◌≤◌, ◌==◌, length, max, IsOk, IfErr, OnOk, OnErr, ℕ};
 ghost use Rattle.std.specs.List.{AllByRecursion};
 ghost use Rattle.cube_core.specs.declared.fault.Fault.TheVariants.{WantOfMemory};
 ghost use Rattle.header_bits.specs.Bits.{bits_of};
@@ -40,6 +40,7 @@ impl Stats {
         ensures written { OnOk result (WritesColumn z t numbers.now self.old writer.old.bits self.new writer.new.bits) }
         ensures same { OnErr result ((self.new ≡ self.old) × (writer.new.bits ≡ writer.old.bits)) }
         ensures within { 48 * length numbers.now ≤ writer.old.room → IsOk result }
+        ensures bounded { writer.new.room ≤ max writer.old.room (max (48 * length numbers.now + 7) (length writer.old.bits)) }
         ensures refused { IfErr result (λ e. e ≡ WantOfMemory) }
         ensures bands { (length self.new.bands ≡ length self.old.bands) × (self.new.bits ≡ self.old.bits) }
     {
@@ -73,6 +74,7 @@ fn put_words_of(
         → WritesColumn z t numbers.now v writer.old.bits (record v { bands = statistics_of bands.new }) writer.new.bits }
     ensures tracked { AreTracked run bands.new }
     ensures bands { length bands.new ≡ length bands.old }
+    ensures still { writer.new.room ≤ writer.old.room }
 {
     // Two loops, in each of which the compiler knows whether the numbers are the first.
     if t == 0 {
@@ -101,6 +103,7 @@ fn put_each(
         → WritesColumn z t numbers.now v writer.old.bits (record v { bands = statistics_of bands.new }) writer.new.bits }
     ensures tracked { AreTracked run bands.new }
     ensures bands { length bands.new ≡ length bands.old }
+    ensures still { writer.new.room ≤ writer.old.room }
 {
     let mut i = 0;
     while i + 1 < numbers.len() {

@@ -11,6 +11,12 @@ returns-in-Sample-clause-room c = rw sample_total at c.write_values.ensures.room
 pub returns-in-Block-clause-within : goal.returns-in-Block-clause-within
 returns-in-Block-clause-within c = λ h. c.write_values-in-Block.ensures.within (omega (arith, h, block_total))
 
+pub returns-in-Sample-clause-still : goal.returns-in-Sample-clause-still
+returns-in-Sample-clause-still c = rw sample_total at c.write_values.ensures.still
+
+pub returns-in-Block-clause-still : goal.returns-in-Block-clause-still
+returns-in-Block-clause-still c = rw block_total at c.write_values-in-Block.ensures.still
+
 pub returns-in-Block-clause-room : goal.returns-in-Block-clause-room
 returns-in-Block-clause-room c = rw block_total at c.write_values-in-Block.ensures.room
 

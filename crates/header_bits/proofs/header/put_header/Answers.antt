@@ -60,3 +60,14 @@ returns-clause-whole c = spelt_whole c.args.params.now (header_of c.args.params.
 
 pub returns-clause-room : goal.returns-clause-room
 returns-clause-room c = omega (arith, header_length c.args.params.now c.requires, after_coder (goal.at.returns-clause-room c).After-unwrap-3)
+
+pub returns-clause-bounded : goal.returns-clause-bounded
+returns-clause-bounded c =
+    let long = header_length c.args.params.now c.requires in
+    let room = c.in_ok-reserve.ensures.room in
+    let image = (rw c.unwrap.ensures at c.write_values.ensures.still) (omega (arith, room, long, image_total)) in
+    let predictor = (rw c.unwrap-2.ensures at c.write_values-2.ensures.still)
+    (omega (arith, room, long, after_image (goal.at.returns-clause-bounded c).After-unwrap, predictor_total)) in
+    let coder = (rw c.unwrap-3.ensures at c.put_coder.ensures.still)
+    (omega (arith, room, long, after_predictor (goal.at.returns-clause-bounded c).After-unwrap-2)) in
+    omega (arith, c.reserve.ensures.bounded, image, predictor, coder, c.put.ensures.still, c.put-2.ensures.still)

@@ -1,4 +1,4 @@
-use Rattle.std.proofs.Common.{arith, length, ◌<◌}
+use Rattle.std.proofs.Common.{arith, length, ◌<◌, ◌≤◌}
 use Rattle.header_bits.proofs.SlotLoops.{next_fits, written_more, written_all, total_left}
 use Rattle.header_bits.proofs.layout.write_values.Goals as goal
 
@@ -10,6 +10,15 @@ loop-i-preserved c =
       fit = (next_fits c.args.slots.now c.args.values.now c.loop-i.i c.loop-i-test.true in_values c.loop-i.invariant.fit).1;
       written = written_more _ _ _ _ _ _ c.loop-i-test.true in_values c.loop-i.invariant.written pushed;
       room = omega (arith, c.loop-i.invariant.room, c.in_ok-push.ensures.room, c.width.ensures, total_left c.args.slots.now c.loop-i.i c.loop-i-test.true);
+      still = λ h.
+          let fits : c.width.result ≤ c.loop-i.writer.room = omega (
+            arith,
+            h,
+            c.loop-i.invariant.room,
+            c.width.ensures,
+            total_left c.args.slots.now c.loop-i.i c.loop-i-test.true,
+          ) in
+          omega (arith, c.loop-i.invariant.still h, c.in_ok-push.ensures.still fits);
     }
 
 pub returns-clause-bits : goal.returns-clause-bits

@@ -14,6 +14,7 @@ loop-i-init c =
       tracked = c.requires.tracked;
       room = omega (arith, c.requires.room);
       within = omega arith;
+      still = omega arith;
     }
 
 pub loop-i-preserved : goal.loop-i-preserved
@@ -40,6 +41,7 @@ loop-i-preserved c =
       tracked = c.word_within-second.ensures.tracked;
       room = omega (arith, was.room, c.push_both.ensures.room, c.word_within-first.ensures.few, c.word_within-second.ensures.few, c.loop-i-test.true);
       within = omega (arith, c.loop-i-test.true);
+      still = omega (arith, was.still, c.push_both.ensures.still);
     }
 
 pub returns-then-i-numbers-clause-written : goal.returns-then-i-numbers-clause-written

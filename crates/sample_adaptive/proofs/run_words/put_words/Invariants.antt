@@ -12,6 +12,7 @@ invariant-loop-i l =
       tracked : IsTracked l.fn.run.codes l.tracked;
       room : 48 * (length l.fn.run.numbers.now - l.i) ≤ l.writer.room;
       within : l.i ≤ length l.fn.run.numbers.now;
+      still : l.writer.room ≤ l.fn.writer.room;
     }
 
 abbrev pub decreases-loop-i : goal.decreases-loop-i

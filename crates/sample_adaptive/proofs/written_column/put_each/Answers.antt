@@ -17,6 +17,7 @@ loop-i-init c =
       tracked = c.requires.tracked;
       room = omega (arith, c.requires.room);
       within = omega arith;
+      still = omega arith;
       bands = refl;
     }
 
@@ -52,6 +53,7 @@ loop-i-preserved c =
           (tracked_set c.args.run bands at c.next_word-one.new.tracked inside c.next_word-one.ensures.tracked was.tracked);
       room = omega (arith, was.room, c.push_both.ensures.room, c.next_word-one.ensures.few, c.next_word-two.ensures.few, c.loop-i-test.true);
       within = omega (arith, c.loop-i-test.true);
+      still = omega (arith, was.still, c.push_both.ensures.still);
       bands = length-set mid (at + 1) c.next_word-two.new.tracked ∙ length-set bands at c.next_word-one.new.tracked ∙ was.bands;
     }
 

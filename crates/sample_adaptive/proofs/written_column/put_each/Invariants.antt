@@ -12,6 +12,7 @@ invariant-loop-i l =
       tracked : AreTracked l.fn.run l.bands;
       room : 48 * (length l.numbers - l.i) ≤ l.writer.room;
       within : l.i ≤ length l.numbers;
+      still : l.writer.room ≤ l.initial.writer.room;
       bands : length l.bands ≡ length l.initial.bands;
     }
 

@@ -18,4 +18,4 @@ into_bytes-requires c = whole c.bit_count.result c.args.writer.bits c.push.new.s
 
 pub returns-clause-filled : goal.returns-clause-filled
 returns-clause-filled c =
-    c.into_bytes.ensures ∙ fills c.bit_count.result c.args.writer.bits c.push.new.self.bits c.bit_count.ensures.count c.in_ok-push.ensures.appended
+    c.into_bytes.ensures.bytes ∙ fills c.bit_count.result c.args.writer.bits c.push.new.self.bits c.bit_count.ensures.count c.in_ok-push.ensures.appended

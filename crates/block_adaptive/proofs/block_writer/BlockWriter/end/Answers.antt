@@ -1,4 +1,5 @@
-use Rattle.std.proofs.Common.{◌≡◌, ◌∙◌, length, take, refl, arith, rules}
+use Rattle.std.proofs.Common.{◌≡◌, ◌∙◌, false, eqb, length, take, refl, arith, rules}
+use Rattle.std.proofs.lemmas.Bool.{ne_eqb}
 use Rattle.std.proofs.lemmas.List.{length-take}
 use Rattle.std.proofs.lemmas.Nat.{pow_pos}
 use Rattle.header_bits.proofs.Places.{on_ok_of}
@@ -32,7 +33,15 @@ returns-clause-ended c =
     (rw (← c.self.view_is, block-is) at c.pack-2.ensures.appended))
 
 pub returns-clause-past : goal.returns-clause-past
-returns-clause-past c = grind (arith, common_steps)
+returns-clause-past c =
+    let was = c.self.invariant in
+    let few = size_most c.self.inside.size was.cut.size in
+    let size : length (take c.self.inside.held c.self.inside.values) ≡ c.self.inside.held =
+    omega (arith, was.few, length-take c.self.inside.held c.self.inside.values, c.self.told) in
+    let block-is : take c.self.inside.size c.filled_block-block.result ≡ filled c.self.inside.size (take c.self.inside.held c.self.inside.values) =
+    c.filled_block-block.ensures c.self.inside.size (omega (arith, was.few, size)) few ∙ rw size refl in
+    let some : eqb (length (take c.self.inside.held c.self.inside.values)) 0 ≡ false = ne_eqb _ 0 (λ e. omega (arith, e, size, c.if-self-eq0.false)) in
+    rw (← c.self.view_is, some) (rw (← c.self.view_is, block-is) at c.pack-2.ensures.packed)
 
 pub returns-clause-memory : goal.returns-clause-memory
 returns-clause-memory c = grind (arith, common_steps)

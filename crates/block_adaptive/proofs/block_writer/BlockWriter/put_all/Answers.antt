@@ -3,6 +3,7 @@ use Rattle.std.proofs.lemmas.List.{length-take}
 use Rattle.block_adaptive.proofs.Holds.{hold_more, block_more, number_more, held_counted, after_refusal}
 use Rattle.std.proofs.lemmas.Grind.{common_steps}
 use Rattle.header_bits.proofs.Items.{all_take, all_drop}
+use Rattle.block_adaptive.proofs.Growing.{grows_both}
 use Rattle.block_adaptive.proofs.block_writer.BlockWriter.put_all.Goals as goal
 
 pub put_block-taken-requires-clause-range : goal.put_block-taken-requires-clause-range
@@ -27,6 +28,7 @@ loop-first-preserved-then-numbers-first c =
       counted = omega (arith, all, c.loop-first.invariant.counted, c.put_block-taken.ensures.counted);
       cut = c.put_block-taken.ensures.cut ∙ c.loop-first.invariant.cut;
       within = omega (arith, c.if-numbers-first.true, c.loop-first.invariant.within);
+      grows = grows_both c.loop-first.invariant.grows c.put_block-taken.ensures.grows;
     }
 
 pub hold-requires-clause-numbers : goal.hold-requires-clause-numbers
@@ -56,6 +58,7 @@ loop-first-preserved-then-first-numbers c =
       counted = omega (arith, counted, was.counted, c.in-Ok.ensures.counted);
       cut = c.put.ensures.cut ∙ (λ i. (c.hold.ensures i).cut) ∙ was.cut;
       within = omega (arith, c.if-first-numbers.true);
+      grows = grows_both was.grows c.put.ensures.grows;
     }
 
 pub loop-first-preserved : goal.loop-first-preserved
@@ -68,4 +71,11 @@ loop-first-preserved c =
       counted = omega (arith, counted, was.counted);
       cut = (λ i. (c.hold.ensures i).cut) ∙ was.cut;
       within = within;
+      grows = was.grows;
     }
+
+pub returns-then-taken-size-clause-grows : goal.returns-then-taken-size-clause-grows
+returns-then-taken-size-clause-grows c = grows_both c.loop-first.invariant.grows c.put_block-taken.ensures.grows
+
+pub returns-in_default-clause-grows : goal.returns-in_default-clause-grows
+returns-in_default-clause-grows c = grows_both c.loop-first.invariant.grows c.put.ensures.grows

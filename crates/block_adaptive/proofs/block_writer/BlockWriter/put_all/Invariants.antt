@@ -1,5 +1,5 @@
 use Rattle.std.proofs.Common.{◌≡◌, ◌+◌, ◌-◌, ◌≤◌, length, take}
-use Rattle.block_adaptive.specs.Taken.{taken_count}
+use Rattle.block_adaptive.specs.Taken.{GrowsByNeed, taken_count}
 use Rattle.block_adaptive.proofs.Holds.{Puts}
 use Rattle.block_adaptive.proofs.block_writer.BlockWriter.put_all.Given as goal
 
@@ -10,6 +10,7 @@ invariant-loop-first l =
       counted : taken_count l.self ≡ taken_count l.initial.self + l.first;
       cut : l.self.cut ≡ l.initial.self.cut;
       within : l.first ≤ length l.numbers;
+      grows : GrowsByNeed l.initial.writer l.writer;
     }
 
 abbrev pub decreases-loop-first : goal.decreases-loop-first

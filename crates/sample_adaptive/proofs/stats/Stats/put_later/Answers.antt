@@ -10,7 +10,7 @@ replace_with-requires c =
 
 pub invariant_of-self : goal.invariant_of-self
 invariant_of-self c =
-    tracked_anew c.args.self.now _ (bands_seen c.self.view_is) _ c.requires.band _ c.self.invariant _ (c.replace_with.ensures.1)
+    tracked_anew c.args.self.now _ (bands_seen c.self.view_is) _ c.requires.band _ c.self.invariant _ (c.replace_with.ensures.1.0)
 
 pub returns-clause-bands : goal.returns-clause-bands
 returns-clause-bands c =
