@@ -70,7 +70,7 @@ holds 'too few raw bytes' out ''
 printf '\xc8\xc8\xc8\xc8' > long
 run 'too many raw bytes' 2 $'ccsds: 14 RawLength 2 3\n' compress $two long out
 # What is read at once grows by 65,536 bytes, so the one byte too many is read alone.
-wide='--columns 65536 --rows 1 --bands 1 --bits 8 --bytes 1'
+wide='--columns 65536 --rows=1 --bands 1 --bits 8 --bytes 1'
 head -c 65537 /dev/zero > long
 run 'a byte too many after 65,536' 2 $'ccsds: 14 RawLength 65536 65537\n' compress $wide long out
 head -c 65537 /dev/zero | timeout 60 "$program" compress $wide /dev/stdin out > stdout 2> stderr
