@@ -22,7 +22,7 @@ PATH = re.compile(r"(?:docs|tests|tools|crates|bench|samples)(?:/[\w.-]+)+/?")
 NAME = re.compile(r"[A-Za-z_][\w]*(?:::[A-Za-z_]\w*)*")
 WORD = re.compile(r"[^\W\d]\w*")
 # Words of the toolchain, of the system and of other programs that no file here holds.
-ELSEWHERE = set("cargo rustc aec libaec valgrind git nproc cmp ulimit inotify".split())
+ELSEWHERE = set("cargo rustc aec libaec valgrind git nproc cmp ulimit inotify sync sha256sum".split())
 
 
 def tracked():
