@@ -14,7 +14,7 @@ loop-number-init c = record {
   cut = c.new-blocks.ensures.cut;
   room = c.new-blocks.ensures.room;
   count = c.new-blocks.ensures.count;
-  taken = rw c.new-writer.ensures c.new-blocks.ensures.taken;
+  taken = rw c.new-writer.ensures.bits c.new-blocks.ensures.taken;
 }
 
 pub put-requires-clause-more : goal.put-requires-clause-more

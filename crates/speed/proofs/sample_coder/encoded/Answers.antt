@@ -10,7 +10,7 @@ pub loop-t-init : goal.loop-t-init
 loop-t-init c = record {
   bands = omega (arith, c.in_ok-stats.ensures.bands, c.requires.bands);
   bits = c.in_ok-stats.ensures.taken.bits ∙ settings_bits c.args.params.now ∙ c.requires.bits;
-  coded = coded_none c.args.params.now c.in_ok-stats.stats c.new-writer.result.bits c.in_ok-stats.ensures.taken c.new-writer.ensures;
+  coded = coded_none c.args.params.now c.in_ok-stats.stats c.new-writer.result.bits c.in_ok-stats.ensures.taken c.new-writer.ensures.bits;
 }
 
 pub loop-t-preserved : goal.loop-t-preserved
