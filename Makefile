@@ -5,7 +5,7 @@ PROGRAM = crates/ccsds/out/ccsds
 # has 4 GB for, and at least one.
 LANES = $(shell awk -v most="$$(nproc)" '/^MemAvailable/ { n = int($$2 / 4000000); print n < 1 ? 1 : n < most ? n : most }' /proc/meminfo)
 
-SCRIPTS = $(addprefix tests/, command.sh limits.sh options.py sizes.py pipelines.py refused.py guards.py fuzz)
+SCRIPTS = $(addprefix tests/, command.sh limits.sh options.py sizes.py pipelines.py refused.py guards.py definitions.py names.py fuzz)
 
 .PHONY: all try show install test attack interop rows bench beside polite plain $(SCRIPTS)
 

@@ -182,6 +182,8 @@ class Build:
 
 def main():
     program = sys.argv[1]
+    if not shutil.which("rt"):
+        sys.exit("the toolchain is needed to build this: its command rt isn't in the PATH (README names the versions)")
     start = time.monotonic()
     with tempfile.TemporaryDirectory(prefix="build-") as room:
         build = Build(program, room)
