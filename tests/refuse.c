@@ -33,7 +33,7 @@ static int is_the_one(const char *kind, atomic_long *count) {
     return 1;
 }
 
-__attribute__((destructor)) static void tell_calls(void) {
+static void tell_calls(void) {
     const char *name = getenv("ASKED");
     int file = name ? open(name, O_CREAT | O_WRONLY | O_TRUNC, 0600) : -1;
     if (file < 0)
@@ -42,6 +42,13 @@ __attribute__((destructor)) static void tell_calls(void) {
     int length = snprintf(digits, sizeof digits, "%ld", atomic_load(&calls));
     syscall(SYS_write, file, digits, (size_t)length);
     close(file);
+}
+
+/* The programs of this repository end by this call. */
+__attribute__((noreturn)) void _exit(int status) {
+    tell_calls();
+    for (;;)
+        syscall(SYS_exit_group, status);
 }
 
 static int is_refused(void) {

@@ -212,6 +212,8 @@ def limits(room, name, words, lines):
 
 # The calls that `refused_allocations calls` makes by themselves.
 NAMED = {b"write_header", b"read_header", b"BitWriter::reserve", b"lane", b"Weaver::new", b"cube_feeds", b"CutSink::new", b"Plan::new"}
+# What the program prints as the name where an allocation outside all calls, such as that of a line, made it repeat everything.
+EVERYTHING = {b"everything"}
 
 
 def each_call(room, word):
@@ -234,8 +236,9 @@ def each_call(room, word):
         # A program that does without memory asks for no more than before; one that hides a refusal has to ask again.
         needless = found[2] == wanted and room.asked() <= asked
         room.expect(f"calls, {word}: call {nth} refused", early or repeated or needless, (found, asked))
-        again += repeated
-        names |= set(found[2].splitlines()[lines.count(b"\n") + 1 :]) if repeated else set()
+        called = set(found[2].splitlines()[lines.count(b"\n") + 1 :]) if repeated else set()
+        again += repeated and called != EVERYTHING
+        names |= called - EVERYTHING
     room.expect(f"calls, {word}: more than {MOST} growths", False, None)
     return lines, again, names
 

@@ -37,7 +37,10 @@ fn main(rt: HostRuntime) -> Result<()> {
     // Everything is repeated if another allocation fails, such as that of a line.
     let lines = match lines_of(&rt, rt.alloc(), asked, &mut again) {
         Ok(lines) => lines,
-        Err(Fault::WantOfMemory) => lines_of(&rt, rt.alloc(), asked, &mut again)?,
+        Err(Fault::WantOfMemory) => {
+            again.call("everything");
+            lines_of(&rt, rt.alloc(), asked, &mut again)?
+        }
         Err(other) => return Err(other.into()),
     };
     if word.is_some() {
