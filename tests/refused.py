@@ -54,7 +54,7 @@ class Room(Workroom):
         """Runs the program, and returns its status, its standard error, and all that it wrote: standard output and `out`."""
         self.write("out", b"")
         asked = {name: str(value) for name, value in (more if refuse is None else {"REFUSE": refuse}).items()}
-        around = {"LD_PRELOAD": self.path("refuse.so"), "REFUSED": self.path("mark")} | asked if asked else {}
+        around = {"LD_PRELOAD": self.path("refuse.so"), "REFUSED": self.path("mark"), "ASKED": self.path("asked")} | asked if asked else {}
         bound = (lambda: resource.setrlimit(resource.RLIMIT_AS, (limit, limit))) if limit else None
         with open(self.path("sample.file" if words == ["inspect"] else "scene.cube"), "rb") as given:
             ran = subprocess.run(
@@ -69,6 +69,10 @@ class Room(Workroom):
             return True
         except FileNotFoundError:
             return False
+
+    def asked(self):
+        """Returns how many allocations the last run asked for."""
+        return int(self.read("asked"))
 
     def expect(self, name, is_well, found):
         if is_well:
@@ -206,31 +210,43 @@ def limits(room, name, words, lines):
     return whole
 
 
+# The calls that `refused_allocations calls` makes by themselves.
+NAMED = {b"write_header", b"read_header", b"BitWriter::reserve", b"lane", b"Weaver::new", b"cube_feeds", b"CutSink::new", b"Plan::new"}
+# What the program prints as the name where an allocation outside all calls, such as that of a line, made it repeat everything.
+EVERYTHING = {b"everything"}
+
+
 def each_call(room, word):
-    """Refuses each allocation of `refused_allocations WORD` in turn. Returns the lines of an undisturbed run, and the number of runs in
-    which a refused library call is repeated."""
-    status, _, wanted = room.run([word], program=CALLS)
+    """Refuses each allocation of `refused_allocations WORD` in turn. Returns the lines of an undisturbed run, the number of runs in
+    which a refused library call is repeated, and the names of those calls."""
+    status, _, wanted = room.run([word], refuse=0, program=CALLS)
+    asked = room.asked()
     lines, last = wanted.rsplit(b"made again: ", 1)
     room.expect(f"calls, {word}", (status, last) == (DONE, b"0\n"), wanted)
-    again = 0
+    again, names = 0, set()
     for nth in range(1, MOST):
         found = room.run([word], refuse=nth, program=CALLS)
         if not room.met():
             room.expect(f"calls, {word}: nothing refused", found[2] == wanted, found)
-            return lines, again
+            room.expect(f"calls, {word}: all are refused in turn", nth > asked, (nth, asked))
+            return lines, again, names
         # If memory is refused before the first library call, or for the lines, the program ends with another status and prints nothing.
         early = found[0] != DONE and found[2] == b""
-        repeated = found[2] == lines + b"made again: 1\n"
-        room.expect(f"calls, {word}: call {nth} refused", early or repeated or found[2] == wanted, found)
-        again += repeated
+        repeated = found[2].startswith(lines + b"made again: 1\n")
+        # A program that does without memory asks for no more than before; one that hides a refusal has to ask again.
+        needless = found[2] == wanted and room.asked() <= asked
+        room.expect(f"calls, {word}: call {nth} refused", early or repeated or needless, (found, asked))
+        called = set(found[2].splitlines()[lines.count(b"\n") + 1 :]) if repeated else set()
+        again += repeated and called != EVERYTHING
+        names |= called - EVERYTHING
     room.expect(f"calls, {word}: more than {MOST} growths", False, None)
-    return lines, again
+    return lines, again, names
 
 
 def each_pipeline_call(room):
     """Does the same to a pipeline that nothing stops, and to one in which a predictor is stopped at its last residual."""
-    whole, again = each_call(room, "open")
-    stopped, again_stopped = each_call(room, "stopped")
+    whole, again, _ = each_call(room, "open")
+    stopped, again_stopped, _ = each_call(room, "stopped")
     room.expect("calls: the pipeline ends", whole.startswith(b"open: "), whole)
     room.expect("calls: a predictor is stopped", stopped == b"stopped: predictor 1 after 1172\n", stopped)
     room.expect("calls: memory is reported, not the stop that comes after", again_stopped == again > 0, (again_stopped, again))
@@ -272,11 +288,14 @@ def main():
             print(f"{name}: whole under {limits(room, name, words, lines)} limits of {len(range(256, 8192, 64))}")
         announced(room)
         if os.access(CALLS, os.X_OK):
-            lines, again = each_call(room, "all")
+            lines, again, _ = each_call(room, "all")
             room.expect("calls made again", again > 0, again)
             room.expect("calls: the files", lines.count(b"by predictors true, back true") == 3, lines)
             print(f"calls: in {again} runs a refused call was made again")
             each_pipeline_call(room)
+            lines, _, names = each_call(room, "calls")
+            room.expect("calls by themselves", names == NAMED, names)
+            print(f"calls: each of {len(names)} is refused by itself: {b', '.join(sorted(names)).decode()}")
         print(f"{room.passed} passed, {room.failed} failed")
         sys.exit(1 if room.failed else 0)
 

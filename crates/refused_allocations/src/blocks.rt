@@ -80,21 +80,21 @@ fn put(
     ensures cut { blocks.new.cut ≡ blocks.old.cut }
 {
     match blocks.put(number, writer) {
-        Ok(()) => Ok(()),
-        Err(_) => {
+        Err(Fault::WantOfMemory) => {
             again.more();
             blocks.put(number, writer)
         }
+        other => other,
     }
 }
 
 /// Ends a body. Repeats the call if it was refused.
 fn end(blocks: &mut BlockWriter, writer: &mut BitWriter, again: &mut Again) -> Result<(), Fault> {
     match blocks.end(writer) {
-        Ok(()) => Ok(()),
-        Err(_) => {
+        Err(Fault::WantOfMemory) => {
             again.more();
             blocks.end(writer)
         }
+        other => other,
     }
 }

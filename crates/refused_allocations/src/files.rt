@@ -55,8 +55,7 @@ pub fn lines<R: Threads + Wait + Sync>(
     let first = line(rt, alloc, &interleaved()?, again)?;
     let other = params_of(Order::Bsq, WeightStart::Usual, blocks)?;
     let second = line(rt, alloc, &other, again)?;
-    let tables = params_of(Order::Bi(1), weights(alloc)?, samples(constants(alloc)?))?;
-    let third = line(rt, alloc, &tables, again)?;
+    let third = line(rt, alloc, &with_tables(alloc)?, again)?;
     let lines = format!(in alloc; "{first}{second}{third}")?;
     Ok(lines)
 }
@@ -67,6 +66,13 @@ pub fn interleaved() -> Result<Params, Fault>
 {
     let coder = samples(CountStart::Constant(3));
     params_of(Order::Bi(2), WeightStart::Usual, coder)
+}
+
+/// Returns parameters of one band a group, with both tables.
+pub fn with_tables(alloc: Global) -> Result<Params, Fault>
+    ensures { IfOk result (λ p. IsLawful p) }
+{
+    params_of(Order::Bi(1), weights(alloc)?, samples(constants(alloc)?))
 }
 
 /// Returns the sample-adaptive coder with this accumulator initialization.
@@ -147,11 +153,11 @@ pub fn scene(alloc: Global, params: &Params, again: &mut Again) -> Result<Cube, 
         bytes.push((number & 0xff) as u8)?;
     }
     match Cube::from_raw(alloc, params.shape, params.kind, BYTES, &bytes) {
-        Ok(cube) => Ok(cube),
-        Err(_) => {
+        Err(Fault::WantOfMemory) => {
             again.more();
             Cube::from_raw(alloc, params.shape, params.kind, BYTES, &bytes)
         }
+        other => other,
     }
 }
 
@@ -162,11 +168,11 @@ pub fn plan_of(alloc: Global, params: &Params, again: &mut Again) -> Result<Plan
 {
     let deal = [0, 1, 1, 0, 1];
     match Plan::new(alloc, params, 2, &deal, 8) {
-        Ok(plan) => Ok(plan),
-        Err(_) => {
-            again.more();
+        Err(Fault::WantOfMemory) => {
+            again.call("Plan::new");
             Plan::new(alloc, params, 2, &deal, 8)
         }
+        other => other,
     }
 }
 
@@ -177,11 +183,11 @@ fn encoded(alloc: Global, cube: &Cube, params: &Params, again: &mut Again) -> Re
     requires kind { cube.now.kind ≡ params.now.kind }
 {
     match encode_one(alloc, cube, params) {
-        Ok(file) => Ok(file),
-        Err(_) => {
+        Err(Fault::WantOfMemory) => {
             again.more();
             encode_one(alloc, cube, params)
         }
+        other => other,
     }
 }
 
@@ -211,11 +217,11 @@ fn comes_back(alloc: Global, cube: &Cube, file: &[u8], again: &mut Again) -> Res
         return Ok(false);
     }
     let (_params, found) = match decode(alloc, file) {
-        Ok(found) => found,
-        Err(_) => {
+        Err(Fault::WantOfMemory) => {
             again.more();
             decode(alloc, file)?
         }
+        other => other?,
     };
     let raw = raw_of(alloc, cube, again)?;
     let raw_found = raw_of(alloc, &found, again)?;
@@ -225,11 +231,11 @@ fn comes_back(alloc: Global, cube: &Cube, file: &[u8], again: &mut Again) -> Res
 /// Returns the raw bytes of a cube. Repeats the call if it was refused.
 fn raw_of(alloc: Global, cube: &Cube, again: &mut Again) -> Result<Vec<u8>, Fault> {
     match cube.to_raw(alloc, BYTES) {
-        Ok(raw) => Ok(raw),
-        Err(_) => {
+        Err(Fault::WantOfMemory) => {
             again.more();
             cube.to_raw(alloc, BYTES)
         }
+        other => other,
     }
 }
 
@@ -241,9 +247,12 @@ pub fn whole_bytes(
 ) -> Result<Vec<u8>, Fault> {
     let over = (writer.bit_count() % 8) as u32;
     let fill = (8 - over) % 8;
-    if writer.push(0, fill).is_err() {
-        again.more();
-        writer.push(0, fill)?;
+    match writer.push(0, fill) {
+        Err(Fault::WantOfMemory) => {
+            again.more();
+            writer.push(0, fill)?;
+        }
+        other => other?,
     }
     if writer.bit_count() % 8 != 0 {
         return Ok(Vec::new(alloc));

@@ -1,25 +1,37 @@
 //! A count of repeated calls, and the numbers that are encoded.
 
-/// A count of calls that were refused and then repeated.
+/// A count of calls that were refused and then repeated, and the name of the last, where it has one.
 #[derive(Drop)]
 pub struct Again {
     count: u32,
+    name: &'static str,
 }
 
 impl Again {
     /// Returns a count of 0.
     pub fn new() -> Again {
-        Again { count: 0 }
+        Again { count: 0, name: "" }
     }
 
     /// Counts one more call.
     pub fn more(&mut self) {
+        self.call("");
+    }
+
+    /// Counts one more call, of this name.
+    pub fn call(&mut self, name: &'static str) {
         self.count = self.count.saturating_add(1);
+        self.name = name;
     }
 
     /// Returns how many calls were repeated.
     pub fn count(&self) -> u32 {
         self.count
+    }
+
+    /// Returns the name of the last call that was repeated; it is empty where there is none.
+    pub fn name(&self) -> &'static str {
+        self.name
     }
 }
 

@@ -73,11 +73,11 @@ fn statistics(alloc: Global, params: &Params, again: &mut Again) -> Result<Stats
     ensures bits { IfOk result (λ s. s.bits ≡ params.now.kind.bits) }
 {
     match Stats::new(alloc, params) {
-        Ok(stats) => Ok(stats),
-        Err(_) => {
+        Err(Fault::WantOfMemory) => {
             again.more();
             Stats::new(alloc, params)
         }
+        other => other,
     }
 }
 
@@ -94,10 +94,10 @@ fn put(
     ensures bands { (length stats.new.bands ≡ length stats.old.bands) × (stats.new.bits ≡ stats.old.bits) }
 {
     match stats.put(0, t, number, writer) {
-        Ok(()) => Ok(()),
-        Err(_) => {
+        Err(Fault::WantOfMemory) => {
             again.more();
             stats.put(0, t, number, writer)
         }
+        other => other,
     }
 }
