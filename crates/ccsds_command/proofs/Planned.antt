@@ -9,9 +9,9 @@ use Rattle.cube_core.specs.declared.fault.Fault.TheVariants.{WantOfMemory}
 use Rattle.cube_core.specs.Order.{upto}
 use Rattle.cube_core.proofs.Lists.{length-from}
 use Rattle.coder_pipe.specs.Plans.{MayPlan, plan_fault}
-use Rattle.cube_predictors.specs.Weave.{IsDeal}
-use Rattle.cube_predictors.proofs.Planning.{plan_fault_is_exact}
-use Rattle.command_settings.specs.declared.settings.CompressSettings.{CompressSettings}
+use Rattle.coder_pipe.specs.Weave.{IsDeal}
+use Rattle.coder_pipe.proofs.Planning.{plan_fault_is_exact}
+use Rattle.command_words.specs.declared.settings.CompressSettings.{CompressSettings}
 use Rattle.ccsds_command.specs.Piped.{HasNoPlan, MayBePlanned, are_in_range, deal_of}
 
 told_in_range : (s : CompressSettings) → MayBePlanned s → are_in_range s ≡ true

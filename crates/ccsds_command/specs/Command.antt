@@ -5,9 +5,9 @@ use Rattle.cube_core.specs.declared.fault.Fault.TheVariants.{Read, WantOfMemory,
 use Rattle.cube_core.specs.Layout.{IsLayout}
 use Rattle.header_bits.specs.Lawful.{IsLawful, params_fault}
 use Rattle.header_bits.specs.declared.params.Params.{Params}
-use Rattle.command_settings.specs.declared.settings.CompressSettings.{CompressSettings}
-use Rattle.command_settings.specs.declared.settings.Settings.{Settings}
-use Rattle.command_settings.specs.declared.settings.Settings.TheVariants.{Show, Compress, Expand, Inspect}
+use Rattle.command_words.specs.declared.settings.CompressSettings.{CompressSettings}
+use Rattle.command_words.specs.declared.settings.Settings.{Settings}
+use Rattle.command_words.specs.declared.settings.Settings.TheVariants.{Show, Compress, Expand, Inspect}
 use Rattle.command_devices.specs.Devices.{GaveBelow}
 use Rattle.command_devices.specs.Reading.{ToldAsRead, file_limit}
 use Rattle.command_devices.specs.Writing.{ToldAsWrite}

@@ -9,7 +9,7 @@ use Rattle.cube_core.specs.Raw.{IsBadSample}
 use Rattle.header_bits.specs.Lawful.{IsLawful, params_fault}
 use Rattle.coder_pipe.specs.File.{file_of}
 use Rattle.coder_pipe.specs.Cubes.{IsCubeOf}
-use Rattle.command_settings.specs.declared.settings.CompressSettings.{CompressSettings}
+use Rattle.command_words.specs.declared.settings.CompressSettings.{CompressSettings}
 use Rattle.command_devices.specs.Devices.{Took, Rose, IsFront, IsAll}
 use Rattle.command_devices.specs.Writing.{IsCutShort}
 

@@ -7,7 +7,7 @@ use Rattle.cube_core.specs.Shape.{InRange}
 use Rattle.header_bits.specs.Lawful.{IsLawful, params_fault}
 use Rattle.coder_pipe.specs.Piping.{EndsEarly, MayStopPart}
 use Rattle.coder_pipe.specs.Plans.{Dealing, plan_fault}
-use Rattle.command_settings.specs.declared.settings.CompressSettings.{CompressSettings}
+use Rattle.command_words.specs.declared.settings.CompressSettings.{CompressSettings}
 use Rattle.command_devices.specs.Writing.{IsCutShort}
 use Rattle.ccsds_command.specs.Compress.{HasCube, HasFile, IsCubeRefusal}
 

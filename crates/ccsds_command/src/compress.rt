@@ -14,7 +14,7 @@ use command_devices::reading::read_up_to;
 use command_devices::sink::Sink;
 use command_devices::source::Source;
 use command_devices::writing::write_all;
-use command_settings::settings::CompressSettings;
+use command_words::settings::CompressSettings;
 use cube_core::cube::Cube;
 use cube_core::fault::Fault;
 use std::alloc::Global;

@@ -13,5 +13,5 @@ pub use command_devices::opener::Opener;
 pub use command_devices::sink::Sink;
 pub use command_devices::source::{Failed, Source};
 pub use command_reports::report::{fault_line, status_of};
-pub use command_settings::settings::{CompressSettings, Settings};
+pub use command_words::settings::{CompressSettings, Settings};
 pub use command_words::words::settings;

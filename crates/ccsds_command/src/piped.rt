@@ -18,7 +18,7 @@ use coder_pipe::plan::Plan;
 use command_devices::sink::Sink;
 use command_devices::source::Source;
 use command_devices::writing::write_all;
-use command_settings::settings::CompressSettings;
+use command_words::settings::CompressSettings;
 use cube_core::fault::Fault;
 use std::alloc::Global;
 use std::sync::Wait;

@@ -1,10 +1,10 @@
-pub mod Built
-pub mod Encoding
-pub mod FineFiles
 pub mod Heads
+pub mod LaneTakings
+pub mod Parts
 pub mod Pipelines
+pub mod Planning
 pub mod Predicted
 pub mod Standings
 pub mod Taking
+pub mod Weaves
 pub mod Weaving
-pub mod WrittenFiles

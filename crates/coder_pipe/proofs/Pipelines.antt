@@ -10,10 +10,11 @@ use Rattle.cube_core.specs.Order.{IsOrder, places}
 use Rattle.cube_core.proofs.Orders.{length-places}
 use Rattle.header_bits.specs.declared.params.Params.{Params}
 use Rattle.lane_workers.specs.Stages.{Standing}
-use Rattle.file_coding.specs.File.{file_of_residuals}
-use Rattle.cube_predictors.specs.Plans.{Dealing, IsPlan}
-use Rattle.cube_predictors.specs.Weave.{owners, part, weave}
-use Rattle.cube_predictors.proofs.Weaves.{weave_is, part_share, owned, length-owners}
+use Rattle.file_format.specs.File.{file_of_residuals}
+use Rattle.coder_pipe.specs.Plans.{Dealing, IsPlan}
+use Rattle.file_encoding.specs.Own.{owners, part}
+use Rattle.coder_pipe.specs.Weave.{weave}
+use Rattle.coder_pipe.proofs.Weaves.{weave_is, part_share, owned, length-owners}
 use Rattle.coder_pipe.specs.Piping.{carried, AreFeeds, IsPiped, EndsEarly, MayStop}
 use Rattle.coder_pipe.specs.Standings.{feeds_of, handed_of, IsWoven}
 use Rattle.coder_pipe.specs.Stops.{MayStopAt}

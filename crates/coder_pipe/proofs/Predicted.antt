@@ -12,18 +12,19 @@ use Rattle.cube_core.specs.Shape.{sample_count}
 use Rattle.cube_core.proofs.Lists.{length-from, get_or-from}
 use Rattle.cube_core.proofs.Orders.{length-places}
 use Rattle.sample_prediction.specs.Residual.{residuals}
-use Rattle.file_coding.specs.File.{file_of}
+use Rattle.file_format.specs.File.{file_of}
 use Rattle.predict_core.specs.Cubes.{IsCubeOf}
-use Rattle.file_decoding.specs.Files.{IsFile}
-use Rattle.file_decoding.proofs.FileLaws.{inside}
-use Rattle.cube_predictors.specs.Plans.{Dealing, IsPlan}
-use Rattle.cube_predictors.specs.Sends.{Predicting, part_of}
-use Rattle.cube_predictors.specs.Weave.{owners, part, parts}
-use Rattle.cube_predictors.proofs.Parts.{length-residuals}
+use Rattle.file_format.specs.Files.{IsFile}
+use Rattle.file_format.proofs.FileLaws.{inside}
+use Rattle.coder_pipe.specs.Plans.{Dealing, IsPlan}
+use Rattle.coder_pipe.specs.Sends.{Predicting, part_of}
+use Rattle.file_encoding.specs.Own.{owners, part}
+use Rattle.coder_pipe.specs.Weave.{parts}
+use Rattle.file_encoding.proofs.Owning.{length-residuals}
 use Rattle.std.proofs.lemmas.List.Elements.{All-from_recursion}
-use Rattle.cube_predictors.proofs.Weaves.{part_share, length-owners, weave_of_parts}
+use Rattle.coder_pipe.proofs.Weaves.{part_share, length-owners, weave_of_parts}
 use Rattle.coder_pipe.specs.Piping.{carried, AreFeeds, IsPiped, MayStop, IsFileOf, MayStopPart}
-use Rattle.coder_pipe.proofs.WrittenFiles.{chosen_is_file}
+use Rattle.file_format.proofs.WrittenFiles.{chosen_is_file}
 
 -- the feeds of a cube
 abbrev pub feed_of : Image → Dealing → ℕ → Predicting

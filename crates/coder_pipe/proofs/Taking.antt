@@ -13,9 +13,10 @@ use Rattle.cube_core.specs.Order.{IsOrder, places}
 use Rattle.cube_core.proofs.Orders.{length-places}
 use Rattle.header_bits.specs.declared.params.Params.{Params}
 use Rattle.header_bits.specs.Lawful.{IsLawful}
-use Rattle.file_coding.specs.Ends.{MayCodeAll}
-use Rattle.cube_predictors.specs.Weave.{IsDeal, owners, share, part}
-use Rattle.cube_predictors.proofs.Weaves.{part_none, part_push, part_short, owned, length-owners}
+use Rattle.file_encoding.specs.Ends.{MayCodeAll}
+use Rattle.file_encoding.specs.Own.{owners, part}
+use Rattle.coder_pipe.specs.Weave.{IsDeal, share}
+use Rattle.coder_pipe.proofs.Weaves.{part_none, part_push, part_short, owned, length-owners}
 use Rattle.coder_pipe.specs.Standings.{IsAhead, IsWoven}
 use Rattle.coder_pipe.specs.Woven.{Weaving, HasWoven, WeavesAll, AreOfOne, AreOwnersFrom}
 

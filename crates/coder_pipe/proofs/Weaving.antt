@@ -16,8 +16,8 @@ use Rattle.cube_core.proofs.Keys.{order_is_by_key, index_of_item}
 use Rattle.cube_core.proofs.Orders.{item_from_index, place_index_below}
 use Rattle.cube_core.proofs.Walks.{columns_along}
 use Rattle.header_bits.specs.declared.params.Params.{Params}
-use Rattle.file_coding.specs.Ends.{Ending, HasCoded, MayCodeAll, CodesAll}
-use Rattle.cube_predictors.specs.Weave.{owners, owners_of}
+use Rattle.file_encoding.specs.Ends.{Ending, HasCoded, MayCodeAll, CodesAll}
+use Rattle.file_encoding.specs.Own.{owners, owners_of}
 use Rattle.coder_pipe.specs.Woven.{Weaving, IsAlong, HasWoven, WeavesAll, AreOfOne, AreOwnersFrom}
 
 -- the owners of the places that come next

@@ -6,10 +6,11 @@ use Rattle.cube_core.specs.declared.fault.Fault.{Fault}
 use Rattle.cube_core.specs.declared.fault.Fault.TheVariants.{WantOfMemory, SpawnRefused, Stopped}
 use Rattle.cube_core.specs.Image.{Image}
 use Rattle.sample_prediction.specs.Residual.{residuals}
-use Rattle.file_coding.specs.File.{file_of_residuals, file_of}
-use Rattle.file_decoding.specs.Files.{IsFile}
-use Rattle.cube_predictors.specs.Plans.{Dealing}
-use Rattle.cube_predictors.specs.Weave.{owners, part, parts, share, weave}
+use Rattle.file_format.specs.File.{file_of_residuals, file_of}
+use Rattle.file_format.specs.Files.{IsFile}
+use Rattle.coder_pipe.specs.Plans.{Dealing}
+use Rattle.file_encoding.specs.Own.{owners, part}
+use Rattle.coder_pipe.specs.Weave.{parts, share, weave}
 
 -- a lane that carried a list: all of it was sent and received, and nothing is left
 abbrev pub carried : List ℕ → Lane

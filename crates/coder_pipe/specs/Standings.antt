@@ -2,7 +2,7 @@
 use Rattle.std.specs.Prelude.{◌≡◌, ℕ, ◌<◌, List, [], ◌++◌, map, length, slice_index_or}
 use Rattle.header_bits.specs.declared.params.Params.{Params}
 use Rattle.lane_workers.specs.Stages.{Standing}
-use Rattle.cube_predictors.specs.Weave.{owners, part}
+use Rattle.file_encoding.specs.Own.{owners, part}
 use Rattle.coder_pipe.specs.Woven.{Weaving, HasWoven}
 
 module _ {F G : Type 0} where

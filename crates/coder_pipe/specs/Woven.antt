@@ -4,7 +4,7 @@ use Rattle.cube_core.specs.declared.order.Order.{Order}
 use Rattle.cube_core.specs.Shape.{Sizes}
 use Rattle.cube_core.specs.Order.{IsOrder, places}
 use Rattle.header_bits.specs.declared.params.Params.{Params}
-use Rattle.file_coding.specs.Ends.{Ending, HasCoded}
+use Rattle.file_encoding.specs.Ends.{Ending, HasCoded}
 
 -- the coding end of the image, and the predictor of each band
 pub record Weaving : Type 0 where

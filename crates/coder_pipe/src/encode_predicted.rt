@@ -1,14 +1,14 @@
 //! Encoding a cube with predictors in threads of their own.
 
 ghost use Rattle.std.specs.Prelude.{◌≡◌, IfOk, IfErr};
-ghost use Rattle.cube_predictors.specs.Sends.{IsSeen};
+ghost use Rattle.file_encoding.specs.Walks.{IsSeen};
 ghost use Rattle.coder_pipe.specs.Piping.{EndsEarly, IsFileOf, MayStopPart};
 
 use crate::pipeline::{Piped, encode_piped};
 use cube_core::cube::Cube;
 use cube_core::fault::Fault;
-use cube_predictors::cube_feed::cube_feeds;
-use cube_predictors::plan::Plan;
+use crate::cube_feed::cube_feeds;
+use crate::plan::Plan;
 use lane_workers::gate::Gate;
 use std::alloc::Global;
 use std::sync::Wait;

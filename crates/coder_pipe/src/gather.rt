@@ -3,14 +3,14 @@
 ghost use Rattle.std.specs.Prelude.{◌≡◌, ℕ, ◌+◌, ◌<◌, ◌≤◌, ◌^◌, [], ◌∷◌, ◌++◌, length, All, IfOk, IfErr, IsTrue, take, vec_len, slice_index_or, slice_set};
 ghost use Rattle.cube_core.specs.Kind.{IsKind};
 ghost use Rattle.cube_core.specs.Shape.{sample_count};
-ghost use Rattle.file_coding.specs.Ends.{MayCodeAll};
+ghost use Rattle.file_encoding.specs.Ends.{MayCodeAll};
 ghost use Rattle.coder_pipe.specs.Piping.{AreFeeds};
 ghost use Rattle.coder_pipe.specs.Standings.{feeds_of, gates_of, handed_of, IsAhead, IsWoven};
 ghost use Rattle.coder_pipe.specs.Stops.{MayStopAt};
 
 use crate::weaver::Weaver;
 use cube_core::kind::Kind;
-use cube_predictors::plan::Plan;
+use crate::plan::Plan;
 use lane_workers::feed::Feed;
 use lane_workers::gate::Gate;
 use lane_workers::stage::Stage;

@@ -1,17 +1,19 @@
-//! Whole files: cubes in and out.
+//! Whole files with predictors in threads of their own; and the public paths of the coder.
 #![tactic(auto)]
 
-mod coding_taker;
-pub mod encode;
+mod copied;
+pub mod cube_feed;
 pub mod encode_predicted;
 mod gather;
+mod lane_taker;
 pub mod laws;
 pub mod pipeline;
+pub mod plan;
+pub mod predict_lane;
 mod run;
 pub mod weaver;
 
-pub use cube_predictors::{cube_feed, plan, predict_lane};
-pub use file_coding::encoder;
 pub use file_decoding::{decode, decoder, least};
+pub use file_encoding::{encode, encoder};
 pub use lane_workers::feed::{Feed, LaneEnd};
 pub use lane_workers::gate::{Gate, OpenGate};

@@ -12,7 +12,7 @@ use crate::run::{Woven, drain, finish_all, join_all, start_all, stop_all, weave}
 use crate::weaver::Weaver;
 use band_rings::settled::SettledLane;
 use cube_core::fault::Fault;
-use cube_predictors::plan::Plan;
+use crate::plan::Plan;
 use header_bits::params::Params;
 use lane_workers::feed::Feed;
 use lane_workers::gate::Gate;

@@ -10,7 +10,7 @@ ghost use Rattle.coder_pipe.specs.Woven.{HasWoven};
 use crate::gather::{next_of_column, next_of_row};
 use crate::weaver::Weaver;
 use band_rings::settled::SettledLane;
-use cube_predictors::plan::Plan;
+use crate::plan::Plan;
 use lane_workers::feed::Feed;
 use lane_workers::gate::Gate;
 use lane_workers::patience::Patience;

@@ -3,16 +3,16 @@
 ghost use Rattle.std.specs.Prelude.{◌≡◌, ◌<◌, ◌≤◌, ℕ, List, [], ◌∷◌, ◌++◌, length, take, slice_get, IfOk, IfErr, OnOk, OnErr};
 ghost use Rattle.cube_core.specs.declared.fault.Fault.TheVariants.{WantOfMemory};
 ghost use Rattle.header_bits.specs.declared.params.Params.{Params as Parameters};
-ghost use Rattle.file_coding.specs.Ends.{MayCode, MayCodeAll};
-ghost use Rattle.file_coding.specs.File.{file_of_residuals};
-ghost use Rattle.cube_predictors.specs.Weave.{owners};
+ghost use Rattle.file_encoding.specs.Ends.{MayCode, MayCodeAll};
+ghost use Rattle.file_format.specs.File.{file_of_residuals};
+ghost use Rattle.file_encoding.specs.Own.{owners};
 ghost use Rattle.coder_pipe.specs.Woven.{AreOfOne, AreOwnersFrom, HasWoven, WeavesAll};
 
 use cube_core::fault::Fault;
 use cube_core::order::Order;
 use cube_core::shape::Shape;
-use cube_predictors::plan::Plan;
-use file_coding::coding_end::CodingEnd;
+use crate::plan::Plan;
+use file_encoding::coding_end::CodingEnd;
 use header_bits::params::Params;
 use std::alloc::Global;
 use std::marker::Model;

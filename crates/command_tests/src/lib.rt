@@ -1,4 +1,4 @@
-//! Tests of the commands, of their sources and sinks, and of their reports, over memory.
+//! Tests of the commands, of their lines, their sources and sinks, and their reports, over memory.
 #![tactic(auto)]
 
 #[cfg(test)]

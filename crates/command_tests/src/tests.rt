@@ -1,11 +1,13 @@
-//! Tests of what commands and their devices do with known bytes, and of what they refuse.
+//! Tests of command lines, and of what commands and their devices do with known bytes and refuse.
 
-mod checks;
 mod commands;
 mod engines;
 mod failing_streams;
 mod inspect;
+mod lines;
+mod options;
 mod reading_and_writing;
+mod refused_lines;
 mod reports;
 mod show;
 mod support;

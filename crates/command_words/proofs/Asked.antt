@@ -4,8 +4,8 @@ use Rattle.clap.specs.Simple.{matches_of}
 use Rattle.cube_core.specs.declared.fault.Fault.{Fault}
 use Rattle.cube_core.specs.declared.fault.Fault.TheVariants.{Usage, WantOfMemory}
 use Rattle.cube_core.specs.declared.layout.Layout.{Layout}
-use Rattle.command_settings.specs.declared.settings.CompressSettings.{CompressSettings}
-use Rattle.command_settings.specs.declared.settings.Settings.TheVariants.{Show, Compress, Expand, Inspect}
+use Rattle.command_words.specs.declared.settings.CompressSettings.{CompressSettings}
+use Rattle.command_words.specs.declared.settings.Settings.TheVariants.{Show, Compress, Expand, Inspect}
 use Rattle.command_words.specs.Options.{compress_app, expand_app}
 use Rattle.command_words.specs.Settings.{AreInRange}
 use Rattle.command_words.specs.Words.{AreCompressed, AreExpanded, AreTaken, AskForNone, BeginWith}

@@ -11,8 +11,8 @@ use Rattle.header_bits.specs.declared.params.Coder.{Coder}
 use Rattle.header_bits.specs.declared.params.Coder.TheVariants as coder
 use Rattle.header_bits.specs.declared.params.CountStart.TheVariants.{Constant}
 use Rattle.header_bits.specs.Lawful.{IsExponent, IsBlockSize}
-use Rattle.command_settings.specs.declared.settings.Settings.{Settings}
-use Rattle.command_settings.specs.declared.settings.Settings.TheVariants as command
+use Rattle.command_words.specs.declared.settings.Settings.{Settings}
+use Rattle.command_words.specs.declared.settings.Settings.TheVariants as command
 
 -- a depth of interleaving is 1 to 65,536
 abbrev pub IsDepth : Order → Type 0

@@ -6,9 +6,9 @@ use Rattle.clap.specs.Walk.{Row}
 use Rattle.clap.specs.Simple.{App, matches_of}
 use Rattle.clap.specs.Faults.{fault_of}
 use Rattle.cube_core.specs.declared.layout.Layout.{Layout}
-use Rattle.command_settings.specs.declared.settings.CompressSettings.{CompressSettings}
-use Rattle.command_settings.specs.declared.settings.Settings.{Settings}
-use Rattle.command_settings.specs.declared.settings.Settings.TheVariants.{Show, Compress, Expand, Inspect}
+use Rattle.command_words.specs.declared.settings.CompressSettings.{CompressSettings}
+use Rattle.command_words.specs.declared.settings.Settings.{Settings}
+use Rattle.command_words.specs.declared.settings.Settings.TheVariants.{Show, Compress, Expand, Inspect}
 use Rattle.command_words.specs.Options.{compress_app, expand_app}
 use Rattle.command_words.specs.Reading.{AreFilesOf, AreParamsOf, HasNumber, IsLayoutOf}
 use Rattle.command_words.specs.Settings.{AreInRange}

@@ -6,7 +6,7 @@ ghost use Rattle.command_words.specs.Settings.{AreInRange};
 ghost use Rattle.command_words.specs.Words.{texts, Ask, AskForNone};
 
 use crate::words::settings;
-use command_settings::settings::Settings;
+use crate::settings::Settings;
 use cube_core::fault::Fault;
 use std::alloc::{AllocError, Global};
 

@@ -4,5 +4,6 @@
 pub mod command_line;
 mod found;
 mod options;
+pub mod settings;
 pub mod words;
 pub mod worked;

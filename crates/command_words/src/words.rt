@@ -24,7 +24,7 @@ use crate::found::{exponent, flag, number, number_in, word};
 use crate::options::{BYTES, PREDICTORS, SLOTS, compress_command, expand_command};
 use clap::error::ErrorKind;
 use clap::{ArgMatches, Command, Error};
-use command_settings::settings::{CompressSettings, Settings};
+use crate::settings::{CompressSettings, Settings};
 use cube_core::fault::Fault;
 use cube_core::kind::Kind;
 use cube_core::layout::{Layout, RawOrder};

@@ -2,7 +2,6 @@
 
 mod bit_reader;
 mod bit_writer;
-mod checks;
 mod cubes;
 mod faults;
 mod headers;

@@ -8,12 +8,11 @@ use Rattle.header_bits.specs.Bits.{bits_of_bytes}
 use Rattle.header_bits.specs.Parts.{fine}
 use Rattle.header_bits.specs.Lawful.{IsLawful}
 use Rattle.header_bits.specs.Header.{header_at, SpellsHeader, BeginsWithTable}
-use Rattle.header_bits.proofs.Headers.{header_exact}
 use Rattle.header_bits.proofs.SpeltLawful.{spelt_is_lawful}
 use Rattle.file_decoding.specs.Decoding.{TakesCube, AnswersOr, IsNoFile, IsRefusal, ReadsFile}
-use Rattle.file_decoding.specs.Files.{IsFile, after_body, fill_test, body_test, head_at, file_test}
-use Rattle.file_decoding.specs.Least.{least_test}
-use Rattle.file_decoding.proofs.FileLaws.{body_of_cube, after_again, passed, file_is_fine, one_file}
+use Rattle.file_format.specs.Files.{IsFile, after_body, fill_test, body_test, head_at, file_test}
+use Rattle.file_format.specs.Least.{least_test}
+use Rattle.file_format.proofs.FileLaws.{body_of_cube, after_again, file_is_fine, one_file, whole_file}
 
 -- ---- a refusal is the file's first fault
 
@@ -54,23 +53,11 @@ module _ (bits : List Bool) (p : Params) (left : List Bool) (e : Fault) (header 
       let body = after_again p lawful (length bits) _ t.body fill (body_of_cube p lawful c t.body t.cube t.coded) in
       inl (rw (header, ← enough, t.text, body, ← f) refl)
 
--- ---- where nothing is refused, the bytes are a file
+-- ---- if nothing is refused, the bytes are a file
 
 pub found_file : (bytes : List ℕ) (p : Params) (c : Image) (rest left : List Bool) → header_at (bits_of_bytes bytes) ≡ Ok (p, rest)
     → TakesCube p c rest left → fill_test p.word left ≡ fine → IsFile bytes p c
-found_file bytes p c rest left header t f =
-    let found = header_exact.found p _ rest header in
-    let zeros = passed _ _ f in
-    record {
-      cube = t.cube;
-      header = found.0;
-      body = t.body;
-      fill = length left;
-      spelt = found.1;
-      coded = t.coded;
-      few = zeros.0;
-      text = found.2 ∙ rw (append_assoc found.0 t.body _, ← zeros.1, ← t.text) refl;
-    }
+found_file bytes p c rest left header t f = whole_file bytes p c rest left t.body header t.cube t.coded t.text f
 
 -- ---- and of nothing else
 

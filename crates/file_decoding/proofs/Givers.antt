@@ -25,7 +25,7 @@ use Rattle.block_adaptive.proofs.Given.{block_is, given_whole as blocks_whole}
 use Rattle.file_decoding.specs.declared.decoder.Decoder.{Decoder}
 use Rattle.file_decoding.specs.declared.decoder.Decoder.TheVariants.{Samples, Blocks}
 use Rattle.file_decoding.specs.Decoding.{HasGiven, MayAskEach, GivesAll, GivesMore, GivesEach}
-use Rattle.file_decoding.specs.Files.{IsBody, after_body}
+use Rattle.file_format.specs.Files.{IsBody, after_body}
 
 -- ---- what may be asked for
 

@@ -1,4 +1,3 @@
-pub mod FileLaws
 pub mod Found
 pub mod Givers
 mod Tiling

@@ -16,6 +16,7 @@ use Rattle.cube_core.proofs.Orders.{length-places}
 use Rattle.cube_core.proofs.Lists.{map_taken}
 use Rattle.header_bits.specs.declared.params.Params.{Params}
 use Rattle.header_bits.specs.Lawful.{IsLawful}
+use Rattle.sample_adaptive.proofs.Times.{number_of_place}
 use Rattle.predict_core.specs.Following.{Learner}
 use Rattle.predict_core.specs.Precedence.{AreAlike}
 use Rattle.sample_prediction.specs.Residual.{mapped_residual}
@@ -23,7 +24,6 @@ use Rattle.predict_core.specs.Walked.{residuals_at}
 use Rattle.predict_core.proofs.Walking.{IsOnWalk, all_places, gone_by, gone_count, goes_by, length-residuals_at, next_place, residuals_whole}
 use Rattle.predict_core.proofs.Walking.{tile_fits, tile_item}
 use Rattle.predict_core.proofs.Kept.{residuals_same}
-use Rattle.file_coding.proofs.Endings.{time_of_place}
 use Rattle.file_decoding.specs.declared.tile.Tile.{Tile}
 use Rattle.file_decoding.specs.declared.decoder.Decoder.{Decoder}
 use Rattle.file_decoding.specs.Decoding.{AreEach, MayAskEach, MayAskColumn, GivesAll, HasGiven, TakesCube}
@@ -36,7 +36,7 @@ pub numbers_in : (p : Params) (tile : Tile) (t n : ℕ) → IsOrder p.shape p.or
     → AreEach p n (band_in tile) (time_in tile t) (tile.columns * tile.bands)
 numbers_in p tile t n lawful is at time k numbers lt long =
     let item = ap (slice_get (places p.shape p.order)) (long ∙ ap (λ (m : ℕ). m + k) at) ∙ item_in lawful is k lt in
-    (nth tile.place tile.bands k, item, refl, omega (arith, time, time_of_place p numbers (nth tile.place tile.bands k) lawful item))
+    (nth tile.place tile.bands k, item, refl, omega (arith, time, number_of_place p.shape p.order numbers (nth tile.place tile.bands k) lawful item))
 
 -- a tile of one band is a run
 pub run_bands : (tile : Tile) → tile.bands ≡ 1 → band_in tile ≡ (λ i. tile.place.z)

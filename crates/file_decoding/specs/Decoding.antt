@@ -16,7 +16,7 @@ use Rattle.block_adaptive.specs.Given.{given_count, HasGivenOf}
 use Rattle.block_adaptive.specs.DataSets.{capacity}
 use Rattle.file_decoding.specs.declared.decoder.Decoder.{Decoder}
 use Rattle.file_decoding.specs.declared.decoder.Decoder.TheVariants.{Samples, Blocks}
-use Rattle.file_decoding.specs.Files.{IsBody, IsFile, after_body, head_at, file_test}
+use Rattle.file_format.specs.Files.{IsBody, IsFile, after_body, head_at, file_test}
 
 -- the coder of parameters has given the numbers, and has read the bits
 abbrev pub HasGiven : Params → Decoder → List ℕ → List Bool → Type 0

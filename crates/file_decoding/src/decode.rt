@@ -9,7 +9,7 @@ ghost use Rattle.header_bits.specs.declared.params.Params.{Params as Parameters}
 ghost use Rattle.header_bits.specs.Bits.{bits_of_bytes};
 ghost use Rattle.header_bits.specs.Lawful.{IsLawful};
 ghost use Rattle.header_bits.specs.Header.{header_at, BeginsWithTable};
-ghost use Rattle.file_decoding.specs.Files.{IsFile, after_body, fill_test, head_at, file_test};
+ghost use Rattle.file_format.specs.Files.{IsFile, after_body, fill_test, head_at, file_test};
 ghost use Rattle.cube_core.specs.Order.{IsPlaceOf, goes_along_rows};
 ghost use Rattle.file_decoding.specs.Decoding.{TakesCube, AnswersOr, IsNoFile, ReadsFile};
 
@@ -20,10 +20,10 @@ use cube_core::cube::Cube;
 use cube_core::cursor::Places;
 use cube_core::fault::Fault;
 use cube_core::order::Place;
-use file_coding::bands::all_bands;
 use header_bits::bit_reader::BitReader;
 use header_bits::header::take_header;
 use header_bits::params::Params;
+use predict_core::bands::all_bands;
 use std::alloc::Global;
 
 /// Returns the parameters and the cube of a file of at most 2^60 bytes.
@@ -98,7 +98,7 @@ fn take_cube(alloc: Global, params: &Params, reader: &mut BitReader) -> Result<C
 }
 
 /// Tests the fill bits after the body: they are zeros, and fewer than an output word of `word` bytes has.
-#[tactic(auto, using(crate::proofs::FileLaws::ones_fail, crate::proofs::FileLaws::zeros_pass))]
+#[tactic(auto, using(file_format::proofs::FileLaws::ones_fail, file_format::proofs::FileLaws::zeros_pass))]
 fn test_fill(word: u32, reader: &BitReader) -> Result<(), Fault>
     requires { InRange 1 8 word }
     ensures { result ≡ fill_test word reader.now.left }

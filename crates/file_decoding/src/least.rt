@@ -2,7 +2,7 @@
 
 ghost use Rattle.std.specs.Prelude.{◌≡◌};
 ghost use Rattle.header_bits.specs.Lawful.{IsLawful};
-ghost use Rattle.file_decoding.specs.Least.{least_length as fewest_bits, least_test};
+ghost use Rattle.file_format.specs.Least.{least_length as fewest_bits, least_test};
 
 use block_adaptive::segments::segment_count;
 use cube_core::fault::Fault;

@@ -5,4 +5,3 @@ pub mod decode;
 pub mod decoder;
 pub mod least;
 mod tile;
-pub mod worked;

@@ -1,6 +1,5 @@
 //! Tests of lanes, feeds and workers.
 
-mod checks;
 mod feeds;
 mod gates;
 mod lanes;

@@ -2,6 +2,7 @@
 #![tactic(auto)]
 
 pub mod band;
+pub mod bands;
 mod below;
 mod chain;
 mod fills;

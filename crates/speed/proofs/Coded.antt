@@ -16,8 +16,8 @@ use Rattle.block_adaptive.specs.Settings.{AreForBlocks, IsCutOf, cut_by}
 use Rattle.block_adaptive.specs.Segments.{block_count}
 use Rattle.block_adaptive.specs.Taken.{Packed, EndsBody, HasTaken as HaveTaken}
 use Rattle.header_bits.specs.Bits.{bits_of_bytes}
-use Rattle.file_coding.specs.File.{body_of, filled}
-use Rattle.file_coding.proofs.Coders.{block_body_is}
+use Rattle.file_format.specs.File.{body_of, filled}
+use Rattle.file_encoding.proofs.Coders.{block_body_is}
 use Rattle.speed.specs.Bodies.{AreOfBits, first_place, one_band_body}
 
 -- the numbers by band: all are of the first

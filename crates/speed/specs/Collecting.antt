@@ -1,7 +1,7 @@
 -- What collects residuals takes lists one after another.
 use Rattle.std.specs.Prelude.{◌≡◌, ℕ, Bool, true, false, List, [], ◌++◌, IsTrue}
 use Rattle.std.proofs.Common.{refl, sym, ap, ◌∙◌, append-nil, append_assoc}
-use Rattle.cube_predictors.specs.Takings.{AreTakings}
+use Rattle.file_encoding.specs.Takings.{AreTakings}
 use Rattle.speed.specs.declared.collected.Collected.{Collected}
 
 -- it has taken all of a list, or there was no memory for it

@@ -4,7 +4,7 @@ ghost use Rattle.std.specs.Prelude.{◌≡◌, ◌≤◌, ◌%◌, ◌^◌, IfOk
 ghost use Rattle.cube_core.specs.declared.fault.Fault.TheVariants.{WantOfMemory};
 ghost use Rattle.cube_core.specs.Shape.{sample_count};
 ghost use Rattle.block_adaptive.specs.Settings.{AreForBlocks, IsSize};
-ghost use Rattle.file_coding.specs.File.{body_of, filled};
+ghost use Rattle.file_format.specs.File.{body_of, filled};
 ghost use Rattle.header_bits.specs.Bits.{bits_of_bytes};
 ghost use Rattle.speed.specs.Bodies.{AreOfBits};
 ghost use Rattle.speed.specs.Measured.{coder_alone};

@@ -2,7 +2,7 @@
 
 ghost use Rattle.speed.specs.Collecting.{Collects, collectings_are};
 
-use cube_predictors::taker::Taker;
+use file_encoding::taker::Taker;
 
 /// The residuals that a walk has passed on so far, in order.
 #[derive(Drop)]
@@ -10,7 +10,7 @@ pub struct Collected {
     pub residuals: Vec<u16>,
 }
 
-impl Taker<()> for Collected {
+impl Taker for Collected {
     ghost may = { λ c list. Unit {0} };
 
     ghost takes = { λ old new all list. Collects old new all list };
@@ -18,7 +18,7 @@ impl Taker<()> for Collected {
     ghost laws = { collectings_are };
 
     /// Appends the residuals. Returns false if there is no memory for them.
-    fn take(&mut self, _rt: &(), numbers: &[u16]) -> bool {
-        self.residuals.extend_from_slice(numbers).is_ok()
+    fn take(&mut self, residuals: &[u16]) -> bool {
+        self.residuals.extend_from_slice(residuals).is_ok()
     }
 }

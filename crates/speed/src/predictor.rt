@@ -21,8 +21,8 @@ use cube_core::fault::Fault;
 use cube_core::kind::Kind;
 use cube_core::order::Order;
 use cube_core::shape::Shape;
-use cube_predictors::walk::send_own;
-use file_coding::bands::all_bands;
+use file_encoding::walk::send_own;
+use predict_core::bands::all_bands;
 use header_bits::params::{Coder, Params, WeightStart};
 use header_bits::tables::WeightTable;
 use std::alloc::{AllocError, Global};
@@ -191,7 +191,7 @@ fn forward(
 {
     cube.prove_is_cube();
     let mut bands = all_bands(alloc, params)?;
-    if send_own(&(), cube, params, 0, &[], &mut bands, collected) {
+    if send_own(cube, params, 0, &[], &mut bands, collected) {
         Ok(())
     } else {
         Err(Fault::WantOfMemory)

@@ -1,7 +1,7 @@
 //! The speed of the sample-adaptive coder.
 
 ghost use Rattle.std.specs.Prelude.{◌≡◌, ◌≤◌, IfOk, IfErr};
-ghost use Rattle.file_coding.specs.File.{filled};
+ghost use Rattle.file_format.specs.File.{filled};
 ghost use Rattle.cube_core.specs.declared.fault.Fault.TheVariants.{WantOfMemory};
 ghost use Rattle.header_bits.specs.Bits.{bits_of_bytes};
 ghost use Rattle.sample_adaptive.specs.Settings.{AreForSamples};

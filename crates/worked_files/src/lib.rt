@@ -1,6 +1,9 @@
-//! Worked files and parts of residuals, computed from the definitions.
+//! Worked files and parts of residuals, computed from the definitions; and worked examples of refused files.
 #![tactic(auto)]
 
-pub mod worked;
-pub mod worked_parts;
-pub mod worked_restricted;
+pub mod files;
+pub mod parts;
+pub mod refusals;
+pub mod restricted;
+pub mod tables;
+pub mod too_short;

@@ -6,13 +6,13 @@ ghost use Rattle.cube_core.specs.Layout.{IsLayout};
 use super::support::{
     ONE_BYTE, TWO_BYTES, TWO_EQUAL_FILE, compressed, expanded, inspected, one_band, sink, two_equal,
 };
-use crate::tests::checks::same;
 use ccsds_command::compress::run_compress;
 use ccsds_command::expand::run_expand;
 use ccsds_command::inspect::run_inspect;
 use command_devices::cut::{CutSink, CutSource};
 use cube_core::fault::{Fault, Rule};
 use cube_core::layout::Layout;
+use test_checks::same;
 use std::alloc::Global;
 use std::process::Abort;
 

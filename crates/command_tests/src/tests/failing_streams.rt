@@ -1,6 +1,5 @@
 //! Tests of sources and sinks over readers and writers that fail once, and that count their calls.
 
-use crate::tests::checks::same;
 use ccsds_command::show::run_show;
 use command_devices::cut::{CutSink, CutSource};
 use command_devices::device::{InputDevice, OutputDevice};
@@ -8,6 +7,7 @@ use command_devices::sink::Sink;
 use command_devices::source::{Failed, Source};
 use command_devices::stream::{ReaderSource, WriterSink};
 use cube_core::fault::Fault;
+use test_checks::same;
 use std::io::{self, Error, ErrorKind};
 use std::test::Fail;
 

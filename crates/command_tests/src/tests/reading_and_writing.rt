@@ -2,12 +2,12 @@
 
 ghost use Rattle.std.specs.Prelude.{◌≡◌, ◌<◌, ◌^◌, None};
 
-use crate::tests::checks::same;
 use command_devices::cut::{CutSink, CutSource};
 use command_devices::reading::{read_file, read_up_to};
 use command_devices::source::{Failed, Source};
 use command_devices::writing::write_all;
 use cube_core::fault::Fault;
+use test_checks::same;
 use std::alloc::Global;
 use std::process::Abort;
 use std::test::Fail;

@@ -3,13 +3,13 @@
 ghost use Rattle.std.specs.Prelude.{◌≡◌, ◌<◌, [], Some};
 
 use super::support::sink;
-use crate::tests::checks::same;
 use ccsds_command::show::run_show;
 use command_devices::cut::{CutSink, CutSource};
 use command_devices::sink::Sink;
 use command_devices::source::{Failed, Source};
 use command_devices::stream::{ReaderSource, WriterSink};
 use cube_core::fault::Fault;
+use test_checks::same;
 use std::alloc::Global;
 use std::process::Abort;
 

@@ -7,7 +7,7 @@ use ccsds_command::compress::run_compress;
 use ccsds_command::expand::run_expand;
 use ccsds_command::inspect::run_inspect;
 use command_devices::cut::{CutSink, CutSource};
-use command_settings::settings::CompressSettings;
+use command_words::settings::CompressSettings;
 use cube_core::fault::Fault;
 use cube_core::kind::Kind;
 use cube_core::layout::{Layout, RawOrder};

@@ -3,7 +3,6 @@
 ghost use Rattle.cube_core.specs.Layout.{IsLayout};
 
 use super::places::shape_of;
-use crate::tests::checks::same;
 use cube_core::cube::Cube;
 use cube_core::cursor::Places;
 use cube_core::fault::{Fault, Field};
@@ -11,6 +10,7 @@ use cube_core::kind::Kind;
 use cube_core::layout::{Layout, RawOrder};
 use cube_core::order::{Order, Place};
 use cube_core::shape::Shape;
+use test_checks::same;
 use std::alloc::Global;
 use std::process::Abort;
 

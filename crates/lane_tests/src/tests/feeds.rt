@@ -3,13 +3,13 @@
 ghost use Rattle.std.specs.Prelude.{◌≡◌, []};
 
 use super::gates::{Noted, StopAt, TakesOne};
-use crate::tests::checks::same;
 use band_rings::lane::lane;
 use band_rings::receiver::LaneReceiver;
 use band_rings::sender::LaneSender;
 use lane_workers::feed::{Feed, LaneEnd};
 use lane_workers::gate::{Gate, OpenGate};
 use lane_workers::list_feed::ListFeed;
+use test_checks::same;
 use std::process::Abort;
 use std::sync::{Mutex, Wait};
 use std::test::Fail;

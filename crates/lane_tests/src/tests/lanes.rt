@@ -3,12 +3,12 @@
 ghost use Rattle.std.specs.Prelude.{◌≡◌};
 ghost use Rattle.cube_core.specs.Shape.{InRange};
 
-use crate::tests::checks::same;
 use band_rings::lane::lane;
 use band_rings::receiver::LaneReceiver;
 use band_rings::sender::LaneSender;
 use band_rings::settled::{SettledLane, settle};
 use cube_core::fault::{Fault, Field};
+use test_checks::same;
 use std::process::Abort;
 use std::test::Fail;
 

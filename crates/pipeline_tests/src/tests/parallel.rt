@@ -4,7 +4,6 @@ use super::coding_end::feeds_make_it;
 use super::cube_a::{BY_PIXEL, compressed};
 use super::gates::{FirstWaits, Meeting};
 use super::predicted_files::two_make_it;
-use crate::tests::checks::same;
 use coder_pipe::Gate;
 use cube_core::fault::Fault;
 use std::alloc::Global;
@@ -12,6 +11,7 @@ use std::process::Abort;
 use std::sync::Wait;
 use std::test::Fail;
 use std::thread::Threads;
+use test_checks::same;
 
 /// Asserts that the command with two predictors makes the file of cube A by pixel, past a gate.
 fn command_makes_it<R: Threads + Wait + Sync + Abort, G: Gate + Sync>(

@@ -6,7 +6,6 @@ ghost use Rattle.coder_pipe.specs.Sends.{AreFresh};
 
 use super::cube_a::{cube_of, plan_by_pixel};
 use super::gates::StopAt;
-use crate::tests::checks::same;
 use band_rings::lane::lane;
 use band_rings::receiver::LaneReceiver;
 use band_rings::sender::LaneSender;
@@ -22,6 +21,7 @@ use std::sync::Wait;
 use std::test::Fail;
 use std::thread;
 use std::thread::Threads;
+use test_checks::same;
 
 /// How often a receiver may find no number before it gives up.
 const MOST_REFUSED: u32 = 10_000_000;

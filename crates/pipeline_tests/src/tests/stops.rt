@@ -2,7 +2,6 @@
 
 use super::cube_a::{compressed, params_of, piped, piped_by_pixel};
 use super::gates::{StopAt, StopTwo};
-use crate::tests::checks::same;
 use cube_core::fault::Fault;
 use cube_core::order::Order;
 use header_bits::params::Coder;
@@ -10,6 +9,7 @@ use std::alloc::Global;
 use std::process::Abort;
 use std::sync::Wait;
 use std::thread::Threads;
+use test_checks::same;
 
 /// The number of a residual that no predictor has: each has those numbered 0 to 5.
 const NEVER: u64 = 6;

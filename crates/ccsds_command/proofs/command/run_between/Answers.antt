@@ -1,7 +1,7 @@
 use Rattle.std.proofs.Common.{◌≡◌, ◌≢◌, ◌⊎◌, ℕ, Result, Ok, Err, IfErr, OnOk, inl, inr, sym, ap, ◌∙◌, refl}
 use Rattle.cube_core.specs.declared.fault.Fault.{Fault}
-use Rattle.command_settings.specs.declared.settings.Settings.{Settings}
-use Rattle.command_settings.specs.declared.settings.Settings.TheVariants.{Show, Compress, Expand, Inspect}
+use Rattle.command_words.specs.declared.settings.Settings.{Settings}
+use Rattle.command_words.specs.declared.settings.Settings.TheVariants.{Show, Compress, Expand, Inspect}
 use Rattle.header_bits.specs.Lawful.{params_fault}
 use Rattle.ccsds_command.specs.Compress.{Compresses}
 use Rattle.ccsds_command.specs.Expand.{Expands, IsExpandFault}

@@ -1,7 +1,7 @@
 use Rattle.std.proofs.Common.{◌≡◌, ◌∙◌, ◌%◌, ◌++◌, ◌∷◌, ◌+◌, [], ℕ, List, map, sym, ap, arith}
 use Rattle.std.proofs.lemmas.List.{map_push}
 use Rattle.cube_core.specs.Order.{upto}
-use Rattle.cube_predictors.proofs.Sending.{upto_split}
+use Rattle.file_encoding.proofs.Sending.{upto_split}
 use Rattle.ccsds_command.proofs.piped.dealt.Goals as goal
 
 -- one band more is dealt

@@ -1,7 +1,7 @@
 use Rattle.std.proofs.Common.{◌≡◌, ℕ, sym, subst}
 use Rattle.std.proofs.lemmas.Result.{IfOk-weaker, IfErr-weaker}
 use Rattle.predict_core.specs.Cubes.{IsCubeOf}
-use Rattle.cube_predictors.specs.Sends.{Predicting, part_of}
+use Rattle.coder_pipe.specs.Sends.{Predicting, part_of}
 use Rattle.coder_pipe.specs.Piping.{AreFeeds, MayStop, MayStopPart}
 use Rattle.coder_pipe.proofs.Pipelines.{early}
 use Rattle.coder_pipe.proofs.Predicted.{feeds_from, are_feeds, is_file_of, may_stop_part}

@@ -3,7 +3,7 @@ use Rattle.std.specs.List.{slice_get}
 use Rattle.std.proofs.lemmas.List.{length-map, length-set, take_more_set}
 use Rattle.std.proofs.lemmas.List.Elements.{All-push}
 use Rattle.std.proofs.lemmas.Option.{slice_get-get_or}
-use Rattle.cube_predictors.specs.Weave.{owners}
+use Rattle.file_encoding.specs.Own.{owners}
 use Rattle.coder_pipe.specs.Standings.{handed_of}
 use Rattle.coder_pipe.proofs.Taking.{ahead_more, owner_below, fewer_taken, place_left, may_take, owners_fit}
 use Rattle.coder_pipe.proofs.gather.next_of_column.Goals as goal

@@ -1,8 +1,8 @@
 use Rattle.std.proofs.Common.{◌≡◌, ◌<◌, ◌≤◌, [], length, take, drop, append-nil, length-take, arith, sym, subst, Some, ◌∙◌}
 use Rattle.std.specs.List.{slice_get}
 use Rattle.std.proofs.lemmas.List.{length-map, take-append-le}
-use Rattle.cube_predictors.specs.Weave.{owners}
-use Rattle.file_coding.specs.Ends.{MayCodeAll}
+use Rattle.file_encoding.specs.Own.{owners}
+use Rattle.file_encoding.specs.Ends.{MayCodeAll}
 use Rattle.coder_pipe.specs.Standings.{handed_of}
 use Rattle.coder_pipe.proofs.Taking.{ahead_none, ahead_more, owner_below, owner_there, fewer_taken, run_fits, may_take, place_left}
 use Rattle.coder_pipe.proofs.gather.next_of_row.Goals as goal

@@ -1,4 +1,4 @@
-use Rattle.cube_predictors.proofs.Weaves.{parts_of_weave}
+use Rattle.coder_pipe.proofs.Weaves.{parts_of_weave}
 use Rattle.coder_pipe.proofs.laws.parts_of_weave.Goals as goal
 
 pub returns : goal.returns

@@ -1,5 +1,5 @@
 use Rattle.std.proofs.Common.{◌≡◌, ◌≤◌, List, ℕ, length, take, length-take, arith, rules, IfErr, IfOk, refl, ◌∙◌, vec_len}
-use Rattle.file_coding.specs.Ends.{MayCodeAll}
+use Rattle.file_encoding.specs.Ends.{MayCodeAll}
 use Rattle.coder_pipe.specs.Standings.{feeds_of, gates_of, handed_of, IsAhead}
 use Rattle.coder_pipe.specs.Stops.{MayStopAt}
 use Rattle.coder_pipe.proofs.Taking.{woven_first, woven_ahead}

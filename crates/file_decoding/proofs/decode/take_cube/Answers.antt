@@ -12,7 +12,7 @@ use Rattle.cube_core.proofs.Lists.{none_first, each_below}
 use Rattle.cube_core.proofs.Orders.{length-places}
 use Rattle.predict_core.proofs.Walking.{all_places, gone_count, next_place, on_walk_first}
 use Rattle.file_decoding.specs.Decoding.{MayAskEach}
-use Rattle.file_decoding.specs.Files.{after_body}
+use Rattle.file_format.specs.Files.{after_body}
 use Rattle.file_decoding.specs.Tiles.{band_in, time_in}
 use Rattle.file_decoding.proofs.TileWalk.{walked_more, walked_whole, fits, come, may_read}
 use Rattle.file_decoding.proofs.decode.take_cube.Goals as goal

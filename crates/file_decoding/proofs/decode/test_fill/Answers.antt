@@ -1,5 +1,5 @@
 use Rattle.std.proofs.Common.{rules, arith}
-use Rattle.file_decoding.proofs.FileLaws.{ones_fail, zeros_pass}
+use Rattle.file_format.proofs.FileLaws.{ones_fail, zeros_pass}
 use Rattle.file_decoding.proofs.decode.test_fill.Goals as goal
 
 pub returns-then-bits-from : goal.returns-then-bits-from

@@ -1,7 +1,7 @@
 use Rattle.std.proofs.Common.{arith, ◌≡◌, ◌+◌, ◌^◌, ◌∙◌, ap, ◌∷◌, ◌++◌, [], ℕ, List, get_or, take, subst, sym}
 use Rattle.std.proofs.lemmas.List.{take_more, take_all}
 use Rattle.block_adaptive.specs.Taken.{HasTaken}
-use Rattle.file_coding.specs.File.{body_of}
+use Rattle.file_format.specs.File.{body_of}
 use Rattle.speed.specs.Bodies.{AreOfBits}
 use Rattle.block_adaptive.proofs.Given.{cut_bits}
 use Rattle.speed.proofs.Powers.{power_is}

@@ -6,8 +6,8 @@ use Rattle.cube_core.specs.Order.{IsOrder}
 use Rattle.cube_core.proofs.Lists.{each_below}
 use Rattle.sample_prediction.specs.Residual.{residuals}
 use Rattle.predict_core.proofs.OneCube.{residuals_inside}
-use Rattle.cube_predictors.proofs.Parts.{length-residuals}
-use Rattle.coder_pipe.proofs.Encoding.{all_fresh, all_residuals}
+use Rattle.file_encoding.proofs.Owning.{length-residuals}
+use Rattle.file_encoding.proofs.Encoding.{all_fresh, all_residuals}
 use Rattle.speed.proofs.predictor.forward.Goals as goal
 use Rattle.speed.proofs.predictor.forward.Goals.{Then-send_own}
 

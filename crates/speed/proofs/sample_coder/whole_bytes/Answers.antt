@@ -2,7 +2,7 @@ use Rattle.std.proofs.Common.{◌≡◌, ◌-◌, ◌%◌, ◌++◌, ℕ, Bool, 
 use Rattle.std.proofs.lemmas.List.{length-append}
 use Rattle.header_bits.specs.Bits.{bits_of}
 use Rattle.header_bits.proofs.Numbers.{length-bits_of, bits_of_zero}
-use Rattle.file_coding.specs.File.{filled}
+use Rattle.file_format.specs.File.{filled}
 use Rattle.speed.proofs.sample_coder.whole_bytes.Goals as goal
 
 whole : (n : ℕ) (old new : List Bool) → n ≡ length old → new ≡ old ++ bits_of ((8 - n % 8) % 8) 0 → length new % 8 ≡ 0

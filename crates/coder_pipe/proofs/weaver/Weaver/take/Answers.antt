@@ -1,4 +1,4 @@
-use Rattle.file_coding.proofs.Endings.{place_comes}
+use Rattle.file_encoding.proofs.Endings.{place_comes}
 use Rattle.coder_pipe.proofs.Weaving.{along_one}
 use Rattle.std.proofs.Common.{rules}
 use Rattle.coder_pipe.proofs.weaver.Weaver.take.Goals as goal

@@ -1,5 +1,0 @@
-use Rattle.predict_core.proofs.OneCube.{one_cube}
-use Rattle.coder_pipe.proofs.laws.one_cube.Goals as goal
-
-pub returns : goal.returns
-returns c = one_cube

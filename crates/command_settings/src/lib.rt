@@ -1,4 +1,0 @@
-//! The settings of a command, and the files that it reads and writes.
-#![tactic(auto)]
-
-pub mod settings;

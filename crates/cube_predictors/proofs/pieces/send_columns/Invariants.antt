@@ -1,6 +1,0 @@
-use Rattle.std.proofs.Common.{true}
-use Rattle.cube_predictors.specs.Pieces.{held_of}
-use Rattle.cube_predictors.proofs.pieces.send_columns.Given as goal
-
-abbrev pub invariant-loop-i : goal.invariant-loop-i
-invariant-loop-i g l = g.T.Taker.takes l.initial.taker l.taker true (held_of l.bands l.i)

@@ -1,6 +1,0 @@
-use Rattle.std.proofs.Common.{◌≡◌, drop}
-use Rattle.cube_predictors.specs.Plans.{owner_fault}
-use Rattle.cube_predictors.proofs.plan.test_owners.Given as goal
-
-abbrev pub invariant-loop-z : goal.invariant-loop-z
-invariant-loop-z l = owner_fault l.predictors 0 l.deal ≡ owner_fault l.predictors l.z (drop l.z l.deal)

@@ -1,3 +1,0 @@
-pub mod Coding
-pub mod Ends
-pub mod File

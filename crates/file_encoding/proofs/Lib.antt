@@ -1,0 +1,10 @@
+pub mod Coders
+pub mod CodingTakings
+pub mod Columns
+pub mod Encoding
+pub mod Endings
+pub mod Groups
+pub mod Owning
+pub mod RowPieces
+pub mod Runs
+pub mod Sending

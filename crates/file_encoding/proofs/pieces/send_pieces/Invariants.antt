@@ -1,0 +1,9 @@
+use Rattle.std.proofs.Common.{◌≤◌, ◌-◌, true}
+use Rattle.file_encoding.specs.Pieces.{held_of}
+use Rattle.file_encoding.proofs.pieces.send_pieces.Given as goal
+
+abbrev pub invariant-loop-i : goal.invariant-loop-i
+invariant-loop-i g l = record { within : l.i ≤ l.count; sent : g.T.Taker.takes l.initial.taker l.taker true (held_of l.bands l.i) }
+
+abbrev pub decreases-loop-i : goal.decreases-loop-i
+decreases-loop-i g l = l.count - l.i

@@ -1,0 +1,7 @@
+pub mod Coding
+pub mod Codings
+pub mod Ends
+pub mod Own
+pub mod Pieces
+pub mod Takings
+pub mod Walks

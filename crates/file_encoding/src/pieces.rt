@@ -1,0 +1,152 @@
+//! Pieces of a row: some bands go over the same places, and what they then hold is sent column after column.
+
+ghost use Rattle.std.specs.Prelude.{◌≡◌, ◌+◌, ◌*◌, ◌<◌, ◌≤◌, length};
+ghost use Rattle.std.specs.List.{flat_map};
+ghost use Rattle.cube_core.specs.Order.{from};
+ghost use Rattle.file_encoding.specs.Walks.{IsSeen, AreAt, bands_of};
+ghost use Rattle.file_encoding.specs.Pieces.{ArePast, held_at, held_of};
+
+use crate::taker::Taker;
+use cube_core::cube::Cube;
+use header_bits::params::Params;
+use predict_core::band::Band;
+
+/// The greatest number of residuals of several bands that are passed on at once.
+pub(crate) const RUN: usize = 2048;
+
+/// Has each of some bands go over `count` places of row `y`, from column `x` on, and hold their residuals.
+pub(crate) fn predict_pieces(
+    cube: &Cube,
+    params: &Params,
+    y: u32,
+    x: u32,
+    count: u32,
+    bands: &mut [Band],
+)
+    requires image { IsSeen params.now cube.now }
+    requires place { (y < cube.now.shape.rows) × (x < cube.now.shape.columns) }
+    requires piece { (count ≤ 64) × (x + count ≤ cube.now.shape.columns) }
+    requires at { AreAt params.now cube.now (y * cube.now.shape.columns + x) bands.old }
+    ensures past { ArePast params.now cube.now (y * cube.now.shape.columns + x) count bands.new }
+    ensures same { bands_of bands.new ≡ bands_of bands.old }
+{
+    let count = count as usize;
+    let pairs = bands.len() / 2;
+    for k in 0..pairs {
+        let (before, rest) = bands.split_at_mut(2 * k + 1);
+        let band = &mut before[2 * k];
+        let other = &mut rest[0];
+        band.predict_pieces(other, cube, y, x, count);
+    }
+    if 2 * pairs < bands.len() {
+        let band = &mut bands[2 * pairs];
+        band.predict_piece(cube, y, x, count);
+    }
+}
+
+/// Writes the residuals that some bands hold of place `i` of their pieces, band after band.
+#[inline(always)]
+#[tactic(auto, using(std::proofs::lemmas::List::map_more))]
+fn gather(i: usize, bands: &[Band], residuals: &mut [u16])
+    requires place { i < 64 }
+    requires room { length residuals.old ≡ length bands.now }
+    ensures { residuals.new ≡ held_at bands.now i }
+{
+    for k in 0..bands.len() {
+        residuals[k] = bands[k].piece_residual(i);
+    }
+}
+
+/// Writes the residuals that some bands hold of `count` places of their pieces, from place `first` on, place after
+/// place.
+#[inline(always)]
+fn gather_places(first: usize, count: usize, bands: &[Band], residuals: &mut [u16])
+    requires places { first + count ≤ 64 }
+    requires few { length bands.now ≤ 2048 }
+    requires room { length residuals.old ≡ count * length bands.now }
+    ensures { residuals.new ≡ flat_map (λ i. held_at bands.now i) (from first count) }
+{
+    let many = bands.len();
+    for k in 0..count {
+        gather(first + k, bands, &mut residuals[k * many..(k + 1) * many]);
+    }
+}
+
+/// Sends the residuals that some bands hold of place `i` of their pieces. Returns false if the taker has
+/// stopped.
+fn send_column<T: Taker>(
+    i: usize,
+    bands: &[Band],
+    room: &mut [u16; RUN],
+    taker: &mut T,
+) -> bool
+    requires place { i < 64 }
+    requires may { T.may taker.old (held_at bands.now i) }
+    ensures sent { T.takes taker.old taker.new result (held_at bands.now i) }
+{
+    let mut first = 0;
+    while first < bands.len() {
+        let count = RUN.min(bands.len() - first);
+        gather(i, &bands[first..first + count], &mut room[..count]);
+        if !taker.take(&room[..count]) {
+            return false;
+        }
+        first += count;
+    }
+    true
+}
+
+/// Sends the residuals that some bands hold of their pieces, column after column. Returns false if the taker
+/// has stopped.
+///
+/// Those of a single band are sent as one slice, others as many columns at once as there is room for; of more bands than there is
+/// room for, one column in parts.
+pub(crate) fn send_pieces<T: Taker>(
+    count: usize,
+    bands: &[Band],
+    room: &mut [u16; RUN],
+    taker: &mut T,
+) -> bool
+    requires piece { count ≤ 64 }
+    requires some { 0 < length bands.now }
+    requires may { T.may taker.old (held_of bands.now count) }
+    ensures sent { T.takes taker.old taker.new result (held_of bands.now count) }
+{
+    if bands.len() == 1 {
+        return taker.take(bands[0].piece_residuals(count));
+    }
+    if bands.len() > RUN {
+        return send_columns(count, bands, room, taker);
+    }
+    let together = RUN / bands.len();
+    let mut i = 0;
+    while i < count {
+        let places = together.min(count - i);
+        let residuals = &mut room[..places * bands.len()];
+        gather_places(i, places, bands, residuals);
+        if !taker.take(residuals) {
+            return false;
+        }
+        i += places;
+    }
+    true
+}
+
+/// Does the same where the bands are more than there is room for.
+fn send_columns<T: Taker>(
+    count: usize,
+    bands: &[Band],
+    room: &mut [u16; RUN],
+    taker: &mut T,
+) -> bool
+    requires piece { count ≤ 64 }
+    requires may { T.may taker.old (held_of bands.now count) }
+    ensures sent { T.takes taker.old taker.new result (held_of bands.now count) }
+{
+    for i in 0..count {
+        if !send_column(i, bands, room, taker) {
+            return false;
+        }
+    }
+    true
+}

@@ -1,0 +1,213 @@
+//! The walk over the places of some bands, in encoding order: all bands of an image, or those of one predictor.
+
+ghost use Rattle.std.specs.Prelude.{◌≡◌, ◌+◌, ◌*◌, ◌-◌, ◌^◌, ◌<◌, ◌≤◌, ◌∷◌, [], ◌++◌, length, slice_index_or, IsTrue};
+ghost use Rattle.std.specs.List.{flat_map};
+ghost use Rattle.cube_core.specs.Order.{IsOrder, from, upto, group, group_count};
+ghost use Rattle.cube_core.specs.declared.order.Order.TheVariants.{Bi};
+ghost use Rattle.header_bits.specs.Lawful.{IsLawful};
+ghost use Rattle.file_encoding.specs.Own.{own, row_of, rows_of, line_of, own_residuals};
+ghost use Rattle.file_encoding.specs.Walks.{IsSeen, AreAt, AreFresh, bands_of};
+
+use crate::each_row::send_each_row;
+use crate::pieces::{RUN, predict_pieces, send_pieces};
+use crate::taker::Taker;
+use cube_core::cube::Cube;
+use cube_core::order::Order;
+use header_bits::params::Params;
+use predict_core::band::Band;
+
+/// The greatest number of places in a piece of a row.
+pub(crate) const PIECE: u32 = 64;
+
+/// Sends the residuals of some bands in row `y`, column after column. Returns false if the taker has stopped.
+pub(crate) fn send_row<T: Taker>(
+    cube: &Cube,
+    params: &Params,
+    y: u32,
+    bands: &mut [Band],
+    taker: &mut T,
+) -> bool
+    requires image { IsSeen params.now cube.now }
+    requires row { y < cube.now.shape.rows }
+    requires at { AreAt params.now cube.now (y * cube.now.shape.columns) bands.old }
+    requires may { T.may taker.old (row_of params.now cube.now (bands_of bands.old) y) }
+    ensures sent { T.takes taker.old taker.new result (row_of params.now cube.now (bands_of bands.old) y) }
+    ensures at { IsTrue result → AreAt params.now cube.now ((y + 1) * cube.now.shape.columns) bands.new }
+    ensures same { bands_of bands.new ≡ bands_of bands.old }
+{
+    if bands.is_empty() {
+        return true;
+    }
+    let columns = cube.shape().columns();
+    let mut room = [0; RUN];
+    let mut x = 0;
+    while x < columns {
+        let count = PIECE.min(columns - x);
+        predict_pieces(cube, params, y, x, count, bands);
+        if !send_pieces(count as usize, bands, &mut room, taker) {
+            return false;
+        }
+        x += count;
+    }
+    true
+}
+
+/// Sends the residuals of some bands, row after row. Returns false if the taker has stopped.
+fn send_rows<T: Taker>(
+    cube: &Cube,
+    params: &Params,
+    bands: &mut [Band],
+    taker: &mut T,
+) -> bool
+    requires image { IsSeen params.now cube.now }
+    requires at { AreAt params.now cube.now 0 bands.old }
+    requires may { T.may taker.old (rows_of params.now cube.now (bands_of bands.old)) }
+    ensures sent { T.takes taker.old taker.new result (rows_of params.now cube.now (bands_of bands.old)) }
+    ensures same { bands_of bands.new ≡ bands_of bands.old }
+{
+    for y in 0..cube.shape().rows() {
+        if !send_row(cube, params, y, bands, taker) {
+            return false;
+        }
+    }
+    true
+}
+
+/// Sends the residuals of some bands, band after band. Returns false if the taker has stopped.
+fn send_bands<T: Taker>(
+    cube: &Cube,
+    params: &Params,
+    bands: &mut [Band],
+    taker: &mut T,
+) -> bool
+    requires image { IsSeen params.now cube.now }
+    requires at { AreAt params.now cube.now 0 bands.old }
+    requires may { T.may taker.old (flat_map (λ z. rows_of params.now cube.now (z ∷ [])) (bands_of bands.old)) }
+    ensures sent { T.takes taker.old taker.new result (flat_map (λ z. rows_of params.now cube.now (z ∷ [])) (bands_of bands.old)) }
+{
+    for i in 0..bands.len() {
+        if !send_rows(cube, params, &mut bands[i..i + 1], taker) {
+            return false;
+        }
+    }
+    true
+}
+
+/// Returns the predictor to which a band is dealt. A band beyond the deal belongs to the first predictor.
+fn owner(deal: &[u8], band: u32) -> u32
+    ensures { result ≡ slice_index_or deal.now band 0 }
+{
+    match deal.get(band as usize) {
+        Some(predictor) => u32::from(*predictor),
+        None => 0,
+    }
+}
+
+/// Returns how many of the bands `first` to `end - 1` are dealt to a predictor.
+#[tactic(auto, using(crate::proofs::Groups::own_next))]
+fn count_own(deal: &[u8], predictor: u32, first: u32, end: u32) -> usize
+    requires { first ≤ end }
+    ensures { result ≡ length (own predictor deal.now (from first (end - first))) }
+{
+    let mut count = 0;
+    for z in first..end {
+        let owner = owner(deal, z);
+        if owner == predictor {
+            count += 1;
+        }
+    }
+    count
+}
+
+/// Sends the residuals of a predictor's bands in row `y`, group after group of bands. Returns false if the
+/// taker has stopped.
+#[tactic(auto, using(crate::proofs::Sending::bands_put))]
+fn send_line<T: Taker>(
+    cube: &Cube,
+    params: &Params,
+    predictor: u32,
+    deal: &[u8],
+    depth: u32,
+    y: u32,
+    bands: &mut [Band],
+    taker: &mut T,
+) -> bool
+    requires image { IsSeen params.now cube.now }
+    requires depth { (1 ≤ depth) × (depth ≤ 65536) }
+    requires row { y < cube.now.shape.rows }
+    requires own { bands_of bands.old ≡ own predictor deal.now (upto cube.now.shape.bands) }
+    requires at { AreAt params.now cube.now (y * cube.now.shape.columns) bands.old }
+    requires may { T.may taker.old (line_of params.now cube.now predictor deal.now depth y) }
+    ensures sent { T.takes taker.old taker.new result (line_of params.now cube.now predictor deal.now depth y) }
+    ensures at { IsTrue result → AreAt params.now cube.now ((y + 1) * cube.now.shape.columns) bands.new }
+    ensures same { bands_of bands.new ≡ bands_of bands.old }
+{
+    if depth == 1 {
+        return send_each_row(cube, params, y, bands, taker);
+    }
+    let total = cube.shape().bands();
+    let groups = (total + depth - 1) / depth;
+    let mut first = 0;
+    let mut slot = 0;
+    for i in 0..groups {
+        let _group = i;
+        let end = total.min(first + depth);
+        let count = count_own(deal, predictor, first, end);
+        if !send_row(cube, params, y, &mut bands[slot..slot + count], taker) {
+            return false;
+        }
+        first = end;
+        slot += count;
+    }
+    true
+}
+
+/// Sends the residuals of a predictor's bands, row after row. Returns false if the taker has stopped.
+fn send_lines<T: Taker>(
+    cube: &Cube,
+    params: &Params,
+    predictor: u32,
+    deal: &[u8],
+    depth: u32,
+    bands: &mut [Band],
+    taker: &mut T,
+) -> bool
+    requires image { IsSeen params.now cube.now }
+    requires depth { (1 ≤ depth) × (depth ≤ 65536) }
+    requires own { bands_of bands.old ≡ own predictor deal.now (upto cube.now.shape.bands) }
+    requires at { AreAt params.now cube.now 0 bands.old }
+    requires may { T.may taker.old (own_residuals params.now cube.now predictor deal.now (Bi depth)) }
+    ensures { T.takes taker.old taker.new result (own_residuals params.now cube.now predictor deal.now (Bi depth)) }
+{
+    for y in 0..cube.shape().rows() {
+        if !send_line(cube, params, predictor, deal, depth, y, bands, taker) {
+            return false;
+        }
+    }
+    true
+}
+
+/// Sends the residuals of a predictor's bands, in encoding order. By an empty deal all bands belong to the
+/// first predictor. Returns false if the taker has stopped.
+///
+/// The parameters are lawful, the cube has their shape and kind, and the bands are the predictor's, in order, each at its first
+/// place. Afterwards the state of the bands is unspecified.
+pub fn send_own<T: Taker>(
+    cube: &Cube,
+    params: &Params,
+    predictor: u32,
+    deal: &[u8],
+    bands: &mut [Band],
+    taker: &mut T,
+) -> bool
+    requires image { IsSeen params.now cube.now }
+    requires lawful { IsLawful params.now }
+    requires bands { AreFresh params.now predictor deal.now cube.now bands.old }
+    requires may { T.may taker.old (own_residuals params.now cube.now predictor deal.now params.now.order) }
+    ensures { T.takes taker.old taker.new result (own_residuals params.now cube.now predictor deal.now params.now.order) }
+{
+    match params.order {
+        Order::Bsq => send_bands(cube, params, bands, taker),
+        Order::Bi(depth) => send_lines(cube, params, predictor, deal, depth, bands, taker),
+    }
+}

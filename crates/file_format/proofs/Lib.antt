@@ -1,0 +1,5 @@
+pub mod Built
+pub mod FileLaws
+pub mod FineFiles
+pub mod Packed
+pub mod WrittenFiles

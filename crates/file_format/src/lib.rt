@@ -1,0 +1,4 @@
+//! What a file is: its definitions, and their laws.
+#![tactic(auto)]
+
+pub mod laws;

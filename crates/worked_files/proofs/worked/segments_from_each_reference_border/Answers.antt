@@ -1,7 +1,0 @@
-use Rattle.std.proofs.Common.{refl}
-use Rattle.worked_files.specs.Everything.{everything}
-use Rattle.worked_files.proofs.worked.segments_from_each_reference_border.Goals as goal
-
-pub returns : goal.returns
-unfolding everything
-returns c = refl
