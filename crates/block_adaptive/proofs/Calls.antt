@@ -21,7 +21,7 @@ use Rattle.block_adaptive.proofs.Counts.{data_set_left}
 use Rattle.block_adaptive.proofs.Handed.{size_least, size_halved}
 use Rattle.block_adaptive.proofs.Packing.{values_length, first_of_blocks}
 use Rattle.std.proofs.lemmas.Grind.{flat_map-append}
-use Rattle.header_bits.proofs.Intervals.{count_least}
+use Rattle.block_adaptive.proofs.Intervals.{count_least}
 
 -- ---- data sets and the blocks that they stand for
 

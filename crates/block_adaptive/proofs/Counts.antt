@@ -3,7 +3,7 @@ use Rattle.std.proofs.Common.{◌≡◌, ◌+◌, ◌<◌, [], length, ap, arith
 use Rattle.block_adaptive.specs.DataSets.{capacity}
 use Rattle.block_adaptive.specs.Given.{Unpacked, given_count}
 use Rattle.block_adaptive.specs.Taken.{Packed, taken_count}
-use Rattle.header_bits.proofs.Powers.{block_left}
+use Rattle.block_adaptive.proofs.Powers.{block_left}
 
 pub room_left : (v : Packed) → taken_count v < capacity v.cut → v.start + v.zeros < v.cut.count
 room_left v few = block_left v.cut.size v.cut.count (v.start + v.zeros) (length v.held) few

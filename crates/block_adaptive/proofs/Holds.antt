@@ -11,7 +11,7 @@ use Rattle.block_adaptive.specs.Holding.{AreStored}
 use Rattle.block_adaptive.specs.Taken.{Packed, HasTaken, PutsNumber, PutsAll, taken_count}
 use Rattle.block_adaptive.proofs.Packing.{values_held}
 use Rattle.header_bits.proofs.Items.{all_append}
-use Rattle.header_bits.proofs.Sums.{sum_append}
+use Rattle.block_adaptive.proofs.ListSums.{sum_append}
 
 -- ---- the values held
 

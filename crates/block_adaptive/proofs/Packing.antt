@@ -16,9 +16,9 @@ use Rattle.block_adaptive.proofs.Streaming.{enough, block_next, run_next, run_to
 use Rattle.block_adaptive.proofs.Handed.{rest_most, size_least}
 use Rattle.header_bits.proofs.Items.{all_append, all_replicate}
 use Rattle.std.proofs.lemmas.Grind.{flat_map-append}
-use Rattle.header_bits.specs.Rows.{zeros}
+use Rattle.header_bits.specs.Examples.{zeros}
 use Rattle.std.proofs.lemmas.Bool.Decides.{nat_tests}
-use Rattle.header_bits.proofs.Intervals.{count_even, count_odd}
+use Rattle.block_adaptive.proofs.Intervals.{count_even, count_odd}
 
 -- ---- one block more, in the chosen data sets
 

@@ -16,8 +16,8 @@ use Rattle.std.proofs.lemmas.Grind.{flat_map-append}
 use Rattle.block_adaptive.specs.declared.options.CodeSet.{CodeSet}
 use Rattle.block_adaptive.specs.DataSets.{CodedDataSet, Block as Whole, Run, RestOfSegment, Cut, left_at, IsCodedDataSet, AreCodedDataSets, blocks_of}
 use Rattle.block_adaptive.specs.DataSets.{blocks_told, values_of, spelled, blocks_in}
-use Rattle.header_bits.specs.Rows.{zeros}
-use Rattle.header_bits.proofs.Places.{values_of_zeros}
+use Rattle.header_bits.specs.Examples.{zeros}
+use Rattle.block_adaptive.proofs.Places.{values_of_zeros}
 
 -- ---- in range
 

@@ -233,7 +233,7 @@ impl BlockReader {
     }
 
     /// Keeps so many blocks of zeros, at most as many as the segment has left.
-    #[tactic(auto, using(crate::proofs::Handed::rest_most, header_bits::proofs::Places::run_in_hand))]
+    #[tactic(auto, using(crate::proofs::Handed::rest_most, crate::proofs::Places::run_in_hand))]
     fn hold_zeros(&mut self, blocks: u32)
         requires { (0 < blocks) × (blocks ≤ left_at self.old.cut self.old.block) }
         ensures zeros { self.new ≡ record self.old { block = self.old.block + blocks; held = values_of (replicate blocks (replicate self.old.cut.size 0)) } }
@@ -246,7 +246,7 @@ impl BlockReader {
     }
 
     /// Returns the first value held.
-    #[tactic(auto, using(header_bits::proofs::Places::first_in_hand))]
+    #[tactic(auto, using(crate::proofs::Places::first_in_hand))]
     fn give(&mut self) -> u16
         requires { 0 < length self.old.held }
         ensures first { GivesFirst self.old result self.new }
@@ -265,7 +265,7 @@ impl BlockReader {
 
     /// Moves the first values held to the front of `numbers`, and returns how many: all of them, or as many as there is room for.
     #[inline(always)]
-    #[tactic(auto, using(std::proofs::lemmas::Grind::common_steps, header_bits::proofs::Places::first_of_hand, header_bits::proofs::Places::zeros_of_hand))]
+    #[tactic(auto, using(std::proofs::lemmas::Grind::common_steps, crate::proofs::Places::first_of_hand, crate::proofs::Places::zeros_of_hand))]
     fn give_run(&mut self, numbers: &mut [u16]) -> usize
         requires held { 0 < length self.old.held }
         requires room { 0 < length numbers.old }

@@ -290,7 +290,7 @@ fn sum_of_eights(block: &[u16]) -> u32
 }
 
 /// Returns the first `held` values, followed by zeros.
-#[tactic(auto, using(std::proofs::lemmas::Grind::common_steps, header_bits::proofs::Places::filled_next))]
+#[tactic(auto, using(std::proofs::lemmas::Grind::common_steps, crate::proofs::Places::filled_next))]
 fn filled_block(values: &[u16; 64], held: u32) -> [u16; 64]
     requires { held ≤ 64 }
     ensures { (n : ℕ) → held ≤ n → n ≤ 64 → take n result ≡ take held values.now ++ replicate (n - held) 0 }

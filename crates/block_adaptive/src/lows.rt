@@ -96,7 +96,7 @@ fn four_lows(
 
 /// Joins four quotients with their low bits, which are the highest bits of a word.
 #[inline(always)]
-#[tactic(auto, using(header_bits::proofs::Powers::four_shifts))]
+#[tactic(auto, using(crate::proofs::Powers::four_shifts))]
 fn join_lows(word: u64, k: u32, four: &mut [u16])
     requires depth { k ≤ 14 }
     requires four { length four.old ≡ 4 }

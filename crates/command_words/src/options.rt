@@ -8,21 +8,21 @@ ghost use Rattle.clap.specs.Walk.{rule_of};
 ghost use Rattle.command_words.specs.Options as defined;
 
 use clap::{Arg, ArgAction, Command};
-use header_bits::field::Range;
+use header_bits::field::ValueRange;
 use header_bits::fields;
 use std::alloc::{AllocError, Global};
 
 /// How many predictors may be asked for; 0 is coding on one thread.
-pub(crate) const PREDICTORS: Range = Range { least: 0, most: 64 };
+pub(crate) const PREDICTORS: ValueRange = ValueRange { least: 0, most: 64 };
 
 /// How many slots a lane may have.
-pub(crate) const SLOTS: Range = Range {
+pub(crate) const SLOTS: ValueRange = ValueRange {
     least: 1,
     most: 65_536,
 };
 
 /// How many bytes a raw sample may have.
-pub(crate) const BYTES: Range = Range { least: 1, most: 2 };
+pub(crate) const BYTES: ValueRange = ValueRange { least: 1, most: 2 };
 
 /// What says how large an image is, and what its samples are.
 macro_rules! sizes {

@@ -5,8 +5,8 @@
 ghost use Rattle.std.specs.Prelude.{◌≡◌, ◌∷◌, [], take};
 ghost use Rattle.header_bits.specs.Bits.{bits_of_bytes};
 ghost use Rattle.sample_adaptive.specs.Body.{sample_body};
-ghost use Rattle.header_bits.specs.Rows.{filled_up};
-ghost use Rattle.sample_adaptive.specs.Rows.{common, of_bits, short_limit, rescaling, with_table, bands_apart, bands_in_groups};
+ghost use Rattle.header_bits.specs.Examples.{filled_up};
+ghost use Rattle.sample_adaptive.specs.Examples.{common, of_bits, short_limit, rescaling, with_table, bands_apart, bands_in_groups};
 
 /// The first number of a band is written in D bits.
 pub fn one_sample()

@@ -4,7 +4,7 @@ ghost use Rattle.std.specs.Prelude.{◌≡◌, ◌∷◌, [], ◌++◌, Some};
 ghost use Rattle.cube_core.specs.declared.fault.Fault.TheVariants.{BadCode, Truncated};
 ghost use Rattle.header_bits.specs.Bits.{bits_of, bits_of_bytes};
 ghost use Rattle.sample_adaptive.specs.Reading.{sample_body_fault};
-ghost use Rattle.sample_adaptive.specs.Rows.{common, short_limit, bands_apart, bands_in_groups};
+ghost use Rattle.sample_adaptive.specs.Examples.{common, short_limit, bands_apart, bands_in_groups};
 
 /// 3 in D bits after eight zeros: its code word is three zeros and a one.
 pub fn needless_escape()

@@ -3,8 +3,8 @@ use Rattle.std.specs.Prelude.{ℕ, List, [], ◌∷◌, replicate, Bool, false, 
 use Rattle.cube_core.specs.declared.order.Order.TheVariants.{Bsq}
 use Rattle.header_bits.specs.declared.params.Params.{Params}
 use Rattle.header_bits.specs.declared.params.Coder.TheVariants.{Block}
-use Rattle.cube_core.specs.Rows.{unsigned, signed}
-use Rattle.header_bits.specs.Rows.{common, cube_a, with_weights}
+use Rattle.cube_core.specs.Examples.{unsigned, signed}
+use Rattle.header_bits.specs.Examples.{common, cube_a, with_weights}
 
 abbrev pub one_below : ℕ → ℕ → ℕ → Params
 one_below nx ny nz = record (common nx ny nz) { previous = 1 }

@@ -3,7 +3,7 @@
 
 ghost use Rattle.std.specs.Prelude.{◌≡◌, ◌∷◌, [], replicate, pos, negsuc, true, false};
 ghost use Rattle.cube_core.specs.declared.order.Order.TheVariants.{Bi, Bsq};
-ghost use Rattle.header_bits.specs.Rows.{block, common, cube_a, deep, with_constants, with_sample_coder, with_weights};
+ghost use Rattle.header_bits.specs.Examples.{block, common, cube_a, deep, with_constants, with_sample_coder, with_weights};
 ghost use Rattle.file_coding.specs.File.{file_of, file_of_residuals};
 ghost use Rattle.file_decoding.specs.Rows.{bytes, cube, file};
 ghost use Rattle.worked_files.specs.Rows.{one_below, coarse_steps, growing_steps, signed_sixteen, four_byte_words, two_below, coarse_table};

@@ -3,7 +3,7 @@
 
 ghost use Rattle.std.specs.Prelude.{◌≡◌, ◌∷◌, [], map, pos};
 ghost use Rattle.cube_core.specs.declared.order.Order.TheVariants.{Bi};
-ghost use Rattle.header_bits.specs.Rows.{cube_a};
+ghost use Rattle.header_bits.specs.Examples.{cube_a};
 ghost use Rattle.cube_predictors.specs.Weave.{parts, weave};
 ghost use Rattle.file_decoding.specs.Rows.{cube};
 ghost use Rattle.worked_files.specs.Rows.{samples_a};

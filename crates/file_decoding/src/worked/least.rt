@@ -3,10 +3,10 @@
 
 ghost use Rattle.std.specs.Prelude.{◌≡◌, ◌++◌, ◌∷◌, [], Err, false, replicate};
 ghost use Rattle.cube_core.specs.declared.fault.Fault.TheVariants.{ShortHeader, Truncated};
-ghost use Rattle.cube_core.specs.Rows.{sizes};
+ghost use Rattle.cube_core.specs.Examples.{sizes};
 ghost use Rattle.header_bits.specs.Bits.{bits_of};
 ghost use Rattle.header_bits.specs.Parts.{fine};
-ghost use Rattle.header_bits.specs.Rows.{block, with_sample_coder};
+ghost use Rattle.header_bits.specs.Examples.{block, with_sample_coder};
 ghost use Rattle.file_decoding.specs.Least.{least_test};
 ghost use Rattle.file_decoding.specs.Rows.{bytes, test, tests_of_cuts};
 

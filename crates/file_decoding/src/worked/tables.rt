@@ -5,7 +5,7 @@ ghost use Rattle.std.specs.Prelude.{◌≡◌, ◌++◌, ◌∷◌, [], Err, neg
 ghost use Rattle.cube_core.specs.declared.fault.Fault.TheVariants.{ShortHeader, Reserved, Disagree, TableElsewhere, Truncated};
 ghost use Rattle.cube_core.specs.declared.fault.Rule.TheVariants as rule;
 ghost use Rattle.header_bits.specs.Parts.{fine};
-ghost use Rattle.header_bits.specs.Rows.{with_constants, with_weights};
+ghost use Rattle.header_bits.specs.Examples.{with_constants, with_weights};
 ghost use Rattle.file_decoding.specs.Rows.{file, test, tests_of_cuts};
 
 /// Without previous bands a table has no entries, and no bytes.
