@@ -13,4 +13,4 @@ pub mod Segments
 pub mod Taken
 pub mod DataSets
 pub mod Settings
-pub mod Told
+pub mod DataSetKinds

@@ -1,4 +1,4 @@
--- Opens each definition, for the worked examples.
+-- Unfolds each definition, for the worked examples.
 use Rattle.cube_core.specs.Greatest.{greatest}
 use Rattle.header_bits.specs.Bits.{bits_of, number_of, bits_of_bytes, fundamental}
 use Rattle.header_bits.specs.Reading.{number_at, zeros_at}

@@ -28,7 +28,7 @@ pub(crate) fn lows(
     Ok(())
 }
 
-/// Reads the low bits that come next, and returns the value made of a quotient and them.
+/// Reads the low bits of a quotient, which come next, and returns the value.
 #[inline(always)]
 #[tactic(auto, unfolding(crate::specs::Reading::low_at))]
 fn whole(reader: &mut BitReader, block: u64, k: u32, most: u16, quotient: u16) -> Result<u16, Fault>

@@ -7,5 +7,5 @@ pub mod Examples
 pub mod Settings
 pub mod Statistics
 pub mod Taken
-pub mod Tracked
+pub mod BandStates
 pub mod Words

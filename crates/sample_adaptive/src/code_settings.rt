@@ -1,13 +1,13 @@
-//! What code words depend on besides the statistics.
+//! The settings on which code words depend, besides the statistics.
 
 ghost use Rattle.std.specs.Prelude.{◌≤◌};
 
 use crate::statistics::Rescaling;
 
-/// What the code words of an image depend on besides the statistics.
+/// The settings on which the code words of an image depend, besides the statistics.
 #[derive(Clone, Copy)]
-pub(crate) struct RunCodes {
-    /// The unary length limit.
+pub(crate) struct CodeSettings {
+    /// U_max, the unary length limit.
     pub limit: u32,
     /// D.
     pub bits: u32,

@@ -1,10 +1,10 @@
-//! The contents of one coded data set.
+//! The kinds of coded data sets.
 
 use crate::options::Choice;
 
-/// What was read as one coded data set.
+/// The kind of a coded data set that was read.
 #[derive(Clone, Copy, Debug, PartialEq, Eq, Drop)]
-pub(crate) enum Found {
+pub(crate) enum DataSetKind {
     /// A block under an option; its values are written elsewhere.
     Block(Choice),
     /// This many zero blocks.
