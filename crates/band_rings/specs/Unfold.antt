@@ -1,4 +1,4 @@
--- Opens each definition, for the worked examples.
+-- Unfolds each definition, for the worked examples.
 use Rattle.band_rings.specs.Lane.{stepped, after}
 
 unfoldable pub everything : Unit {0}
