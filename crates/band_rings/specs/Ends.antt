@@ -1,4 +1,4 @@
--- Which lane an end belongs to, of the two ends of a ring.
+-- The lane to which each end of a ring belongs.
 use Rattle.rtrb.specs.declared.producer.Producer.{Producer}
 use Rattle.rtrb.specs.declared.consumer.Consumer.{Consumer}
 use Rattle.band_rings.specs.Lane.{LaneName}

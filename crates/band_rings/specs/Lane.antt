@@ -1,72 +1,72 @@
--- A lane between two threads: the numbers sent into it, and those received from it.
+-- A lane between two threads: the numbers that were sent and those that were received.
 use Rattle.std.specs.Prelude.{◌≡◌, ℕ, List, [], ◌∷◌, ◌++◌}
 use denote.RawPtr.{Ptr}
 
--- which lane an end belongs to: both ends of a lane have one name
+-- the name of a lane, which its two ends share
 pub record LaneName : Type 0 where
   pub words : Ptr
   pub slots : Ptr
   pub names : ℕ × (ℕ × ℕ)
 
--- the end that sends: its lane, what it sent, how many slots it knows to be free, and how many there are
+-- the sending end: its lane, the numbers that it sent, the number of slots that it knows to be free, and the number of all slots
 pub record Sending : Type 0 where
   pub lane : LaneName
   pub sent : List ℕ
   pub free : ℕ
   pub slots : ℕ
 
--- the end that receives: its lane, what it received, and what it has seen in the lane and not yet received
+-- the receiving end: its lane, the numbers that it received, and those that it has seen in the lane and not yet received
 pub record Receiving : Type 0 where
   pub lane : LaneName
   pub received : List ℕ
   pub known : List ℕ
 
--- an end that sends no more: its lane, and what it sent
+-- a closed sending end: its lane, and the numbers that it sent
 pub record Closing : Type 0 where
   pub lane : LaneName
   pub sent : List ℕ
 
--- both ends of a lane: all that was sent, what of it was received, and what was not
+-- both ends of a lane: all numbers that were sent, those of them that were received, and the rest
 pub record Lane : Type 0 where
   pub sent : List ℕ
   pub received : List ℕ
   pub rest : List ℕ
 
--- what was received is what was sent first, and the rest follows it
+-- the numbers received are the first of those sent, and the rest follows them
 abbrev pub IsLane : Lane → Type 0
 IsLane l = l.sent ≡ l.received ++ l.rest
 
--- what the two ends do: the sender pushes a number, the receiver pops one
+-- a step of either end: the sender pushes a number, or the receiver pops one
 pub data Step : Type 0 where
   Push : ℕ → Step
   Pop : Step
 
--- a lane of which neither end has done anything
+-- a lane before the first step
 abbrev pub fresh : Lane
 fresh = record { sent = []; received = []; rest = [] }
 
--- a number sent after the others
+-- a lane after one more number was sent
 abbrev pub pushed : Lane → ℕ → Lane
 pushed l v = record l { sent = l.sent ++ v ∷ []; rest = l.rest ++ v ∷ [] }
 
--- the next number sent is received; a lane whose numbers were all received stays as it is
+-- a lane after its next number was received, if there is one
 abbrev pub popped : Lane → Lane
 popped l = elim l.rest [ [] ↦ l | v ∷ later ↦ record l { received = l.received ++ v ∷ []; rest = later } ]
 
--- one step
+-- a lane after a step
 unfoldable pub stepped : Lane → Step → Lane
 stepped l (Push v) = pushed l v
 stepped l Pop = popped l
 
--- steps of both ends, in the order in which they met
+-- a lane after steps of both ends, in the order in which they happened
 unfoldable pub after : Lane → List Step → Lane
 after l [] = l
 after l (step ∷ steps) = after (stepped l step) steps
 
--- what the two ends do keeps it so, in whatever order they do it
+-- what was received is a prefix of what was sent, whatever steps the two ends take, in whatever order
 abbrev pub ReceivedIsPrefix : Type 0
 ReceivedIsPrefix = (steps : List Step) → IsLane (after fresh steps)
 
--- and each lane of which it is so is one that they can come to
+-- conversely, steps of the two ends lead to each such lane
 abbrev pub EachLaneIsReached : Type 0
 EachLaneIsReached = (l : Lane) → IsLane l → (steps : List Step) × (after fresh steps ≡ l)

@@ -1,3 +1,3 @@
 pub mod Ends
-pub mod Everything
+pub mod Unfold
 pub mod Lane

@@ -1,5 +1,5 @@
 //! Worked examples of lanes.
-#![tactic(auto, unfolding(crate::specs::Everything::everything))]
+#![tactic(auto, unfolding(crate::specs::Unfold::everything))]
 
 ghost use Rattle.std.specs.Prelude.{◌≡◌, ◌∷◌, []};
 ghost use Rattle.band_rings.specs.Lane.{Step, fresh, after};

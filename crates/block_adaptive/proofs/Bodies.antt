@@ -21,7 +21,7 @@ use Rattle.block_adaptive.specs.Laws.{OneBody, ChosenIsBody, BodyIsRead, AreBloc
 use Rattle.block_adaptive.proofs.Again.{data_set_again}
 use Rattle.block_adaptive.proofs.Lawful.{chosen_is_lawful, rest_least}
 use Rattle.header_bits.proofs.Items.{all_take, all_drop}
-use Rattle.header_bits.proofs.Places.{take_after}
+use Rattle.block_adaptive.proofs.Places.{take_after}
 
 -- a lawful data set stands for a block or more
 pub data_set_some : (s : CodeSet) (size left : ℕ) (t : CodedDataSet) → IsCodedDataSet s size left t → 1 ≤ blocks_in left t

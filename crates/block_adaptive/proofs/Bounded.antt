@@ -11,7 +11,7 @@ use Rattle.block_adaptive.proofs.Costs.{split_cost, quotients_least}
 use Rattle.block_adaptive.proofs.Sums.{plain_length}
 use Rattle.block_adaptive.proofs.Slopes.{falls_to, rises_from, second_longer}
 use Rattle.block_adaptive.proofs.Tried.{LeadsTried, leads_all}
-use Rattle.header_bits.proofs.Powers.{lead_cost}
+use Rattle.block_adaptive.proofs.Powers.{lead_cost}
 
 -- the k from which on the search goes, and whether the second extension is left out
 pub record IsSearch (s : CodeSet) (vs : List ℕ) (sum first : ℕ) (longer : Bool) : Type 0 where

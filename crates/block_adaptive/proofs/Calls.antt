@@ -13,7 +13,7 @@ use Rattle.block_adaptive.specs.DataSets.{blocks_of, blocks_told, values_of, spe
 use Rattle.block_adaptive.specs.Chosen.{chosen_from, chosen_data_sets, chosen_block_body}
 use Rattle.block_adaptive.specs.Reading.{Site, site_of, data_set_at, data_sets_at}
 use Rattle.block_adaptive.specs.Settings.{IsCut}
-use Rattle.block_adaptive.specs.Given.{Unpacked, HasGiven, given_count, holding, next_data_set}
+use Rattle.block_adaptive.specs.Given.{ReaderState, HasGiven, given_count, holding, next_data_set}
 use Rattle.block_adaptive.specs.Prefixes.{TakenIsPrefix}
 use Rattle.block_adaptive.proofs.Again.{data_set_again}
 use Rattle.block_adaptive.proofs.Bodies.{length-first_blocks, data_set_some, data_sets_few}
@@ -21,7 +21,7 @@ use Rattle.block_adaptive.proofs.Counts.{data_set_left}
 use Rattle.block_adaptive.proofs.Handed.{size_least, size_halved}
 use Rattle.block_adaptive.proofs.Packing.{values_length, first_of_blocks}
 use Rattle.std.proofs.lemmas.Grind.{flat_map-append}
-use Rattle.header_bits.proofs.Intervals.{count_least}
+use Rattle.block_adaptive.proofs.Intervals.{count_least}
 
 -- ---- data sets and the blocks that they stand for
 
@@ -76,7 +76,7 @@ data_sets_refused count half (suc n) i j c (t ∷ data_sets) left e even lt fuel
     rw (more, append_assoc (spelled c.set t) _ _, one, others) refl
 
 -- a refusal of the next data set is that of the body, out of which the numbers given were read
-body_refused : (v : Unpacked) (given : List ℕ) (bits left : List Bool) (count : ℕ) (e : Fault) → IsCut v.cut → given_count v < capacity v.cut → v.held ≡ []
+body_refused : (v : ReaderState) (given : List ℕ) (bits left : List Bool) (count : ℕ) (e : Fault) → IsCut v.cut → given_count v < capacity v.cut → v.held ≡ []
     → HasGiven v given bits → data_set_at (record { count = count; block = v.block }) v.cut.set v.cut.size (left_at v.cut v.block) left ≡ Err e
     → data_sets_at count v.cut v.cut.count 0 (bits ++ left) ≡ Err e
 body_refused v given bits left count e cut few none h bad =
@@ -84,11 +84,11 @@ body_refused v given bits left count e cut few none h bad =
     (λ i. data_sets_at count v.cut v.cut.count 0 (h.text i ++ left)) ∙ data_sets_refused _ _ _ _ _ _ h.data_sets _ _ (sym (size_halved _ cut.size)) lt
     (omega arith) h.lawful bad
 
-no_step : (x : Unpacked × List Bool) (e : Fault) → Ok x ≡ Err e → ⊥
+no_step : (x : ReaderState × List Bool) (e : Fault) → Ok x ≡ Err e → ⊥
 no_step x e h = absurd (cc)
 
 -- so is that of a number that would come next
-pub next_refused : (v : Unpacked) (reader : Unread) (e : Fault) → IsCut v.cut → given_count v < capacity v.cut → v.held ≡ [] → next_data_set v reader ≡ Err e
+pub next_refused : (v : ReaderState) (reader : Unread) (e : Fault) → IsCut v.cut → given_count v < capacity v.cut → v.held ≡ [] → next_data_set v reader ≡ Err e
     → (given : List ℕ) (bits : List Bool) → HasGiven v given bits → data_sets_at reader.count v.cut v.cut.count 0 (bits ++ reader.left) ≡ Err e
 next_refused v reader e cut few none bad given bits h =
     let site : Site = site_of reader v.block in

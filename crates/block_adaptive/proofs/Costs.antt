@@ -7,7 +7,7 @@ use Rattle.block_adaptive.specs.declared.options.Choice.TheVariants.{Uncoded, Se
 use Rattle.header_bits.specs.Bits.{bits_of, fundamental}
 use Rattle.block_adaptive.specs.Options.{width, quotient_codes, low_groups, pair_codes, pair_number, identifier, coded, option_text, cost}
 use Rattle.header_bits.proofs.Numbers.{length-bits_of}
-use Rattle.header_bits.proofs.Zeros.{length-fundamental}
+use Rattle.block_adaptive.proofs.Zeros.{length-fundamental}
 
 pub length-low_groups : (k : ℕ) (vs : List ℕ) → length (low_groups k vs) ≡ k * length vs
 unfolding low_groups

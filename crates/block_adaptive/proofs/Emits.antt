@@ -1,7 +1,7 @@
 -- Writing coded data sets, part after part.
 use Rattle.std.proofs.lemmas.Grind.{common_steps}
 use Rattle.std.proofs.Math.Pow.{pow_mono}
-use Rattle.header_bits.proofs.WordTexts.{words_start, words_few, words_joined, words_end, words_below}
+use Rattle.block_adaptive.proofs.WordTexts.{words_start, words_few, words_joined, words_end, words_below}
 use Rattle.std.proofs.Common.{◌≡◌, ℕ, ◌+◌, ◌-◌, ◌*◌, ◌/◌, ◌%◌, ◌^◌, ◌<◌, ◌≤◌, List, [], ◌++◌, length, drop, get_or, refl, sym, rules}
 use Rattle.std.proofs.Common.{ap, ◌∙◌, arith, add-one, drop-cons}
 use Rattle.std.proofs.lemmas.List.{length-append, drop_all}
@@ -12,7 +12,7 @@ use Rattle.block_adaptive.specs.declared.options.CodeSet.{CodeSet}
 use Rattle.block_adaptive.specs.declared.options.Choice.TheVariants.{Uncoded, Second, Split}
 use Rattle.block_adaptive.specs.Options.{width, zero_identifier, identifier, quotient_codes, low_groups, pair_codes, pair_number}
 use Rattle.block_adaptive.specs.DataSets.{run_text}
-use Rattle.header_bits.proofs.Zeros.{length-fundamental}
+use Rattle.block_adaptive.proofs.Zeros.{length-fundamental}
 
 -- ---- parts of a block
 

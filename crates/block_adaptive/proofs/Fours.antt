@@ -9,7 +9,7 @@ use Rattle.block_adaptive.specs.Reading.{Site, quotients_at, low_at, lows_at, sp
 use Rattle.block_adaptive.proofs.Codes.{low_again}
 use Rattle.block_adaptive.proofs.Takes.{quotients_takes}
 use Rattle.header_bits.proofs.Numbers.{no_bits}
-use Rattle.header_bits.proofs.Fours.{Within}
+use Rattle.block_adaptive.proofs.FourValues.{Within}
 
 -- ---- low bits among the highest bits of a word
 

@@ -9,7 +9,7 @@ use Rattle.header_bits.specs.declared.params.Coder.TheVariants.{Sample, Block}
 use Rattle.header_bits.specs.Bits.{Unread}
 use Rattle.block_adaptive.specs.Settings.{IsBlock, coder_cut, cut_by}
 use Rattle.block_adaptive.specs.DataSets.{Cut, IsBlockBody, cut_of}
-use Rattle.block_adaptive.specs.Given.{Unpacked, given_count, GivesMore, HasGivenOf, GivesMoreOf}
+use Rattle.block_adaptive.specs.Given.{ReaderState, given_count, GivesMore, HasGivenOf, GivesMoreOf}
 
 pub block_is : (k : Coder) → IsBlock k → (size : ℕ) × (restricted : Bool) × (reference : ℕ) × (k ≡ Block size restricted reference)
 block_is (Block size restricted reference) is = (size, restricted, reference, refl)
@@ -20,7 +20,7 @@ cut_bits p c e =
     let cut : Coder → Cut = coder_cut p.kind.bits (sample_count p.shape) in
     rw e (elim p.coder as (λ k. (cut k).set.bits ≡ p.kind.bits) [ Block size restricted reference ↦ refl | Sample umax star zero start ↦ refl ])
 
-pub more_given : {X : Type 0} (numbers_of : X → List ℕ) (r : Result X Fault) (p : Params) (old new : Unpacked) (numbers : List ℕ) (bits : List Bool)
+pub more_given : {X : Type 0} (numbers_of : X → List ℕ) (r : Result X Fault) (p : Params) (old new : ReaderState) (numbers : List ℕ) (bits : List Bool)
     (unread : Unread) (left : List Bool) → HasGivenOf p old numbers bits → GivesMore numbers_of old unread r new left → new.cut ≡ old.cut
     → IfOk r (λ x. given_count new ≡ given_count old + length (numbers_of x)) → new.block ≤ new.cut.count
     → GivesMoreOf numbers_of r p numbers bits unread new left
@@ -41,7 +41,7 @@ more_given numbers_of (Ok x) p old new numbers bits unread left h gives kept cou
 more_given numbers_of (Err fault) p old new numbers bits unread left h gives kept counted inside = rw h.cut at (gives numbers bits h.given)
 
 -- where a number was given for each sample, the bits are a body of them
-pub given_whole : (p : Params) (v : Unpacked) (numbers : List ℕ) (bits : List Bool) (h : HasGivenOf p v numbers bits) → length numbers ≡ sample_count p.shape
+pub given_whole : (p : Params) (v : ReaderState) (numbers : List ℕ) (bits : List Bool) (h : HasGivenOf p v numbers bits) → length numbers ≡ sample_count p.shape
     → (let k = block_is p.coder h.coder in IsBlockBody (record { bits = p.kind.bits; restricted = k.1 }) k.0 k.2 numbers bits)
 given_whole p v numbers bits h long =
     let k = block_is p.coder h.coder in

@@ -11,10 +11,10 @@ use Rattle.block_adaptive.proofs.Lawful.{rest_least}
 use Rattle.block_adaptive.proofs.Taken.{data_set_is_taken}
 use Rattle.block_adaptive.specs.DataSets.{CodedDataSet, Cut, IsCodedDataSet, AreCodedDataSets, left_at, blocks_in, blocks_of, blocks_told, values_of, spelled}
 use Rattle.block_adaptive.specs.DataSets.{spelling}
-use Rattle.block_adaptive.specs.Given.{Unpacked, HasGiven, holding}
+use Rattle.block_adaptive.specs.Given.{ReaderState, HasGiven, holding}
 use Rattle.std.proofs.lemmas.Grind.{flat_map-append}
 
-pub nothing_held : (v : Unpacked) → v.block ≡ 0 → v.held ≡ [] → v.refused ≡ None → HasGiven v [] []
+pub nothing_held : (v : ReaderState) → v.block ≡ 0 → v.held ≡ [] → v.refused ≡ None → HasGiven v [] []
 unfolding AreCodedDataSets blocks_told
 nothing_held v at_start none working = record { data_sets = []; lawful = sym at_start; text = refl; told = sym none; working = working }
 
@@ -55,7 +55,7 @@ told_push c i j (u ∷ data_sets) t h = grind (arith, append_assoc, told_push c 
 
 -- ---- what was given
 
-pub data_set_given : (v : Unpacked) (reader : Unread) (given : List ℕ) (bits left : List Bool) (t : CodedDataSet) → IsCut v.cut → v.block < v.cut.count
+pub data_set_given : (v : ReaderState) (reader : Unread) (given : List ℕ) (bits left : List Bool) (t : CodedDataSet) → IsCut v.cut → v.block < v.cut.count
     → v.held ≡ [] → HasGiven v given bits → data_set_at (site_of reader v.block) v.cut.set v.cut.size (left_at v.cut v.block) reader.left ≡ Ok (t, left)
     → (reader.left ≡ spelled v.cut.set t ++ left) × HasGiven (holding v t) given (bits ++ spelled v.cut.set t)
 data_set_given v reader given bits left t cut more none h e =

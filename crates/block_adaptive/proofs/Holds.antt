@@ -8,10 +8,10 @@ use Rattle.std.proofs.lemmas.List.{length-append, length-take, length-drop, take
 use Rattle.cube_core.specs.declared.fault.Fault.{Fault}
 use Rattle.block_adaptive.specs.DataSets.{Cut}
 use Rattle.block_adaptive.specs.Holding.{AreStored}
-use Rattle.block_adaptive.specs.Taken.{Packed, HasTaken, PutsNumber, PutsAll, taken_count}
+use Rattle.block_adaptive.specs.Taken.{WriterState, HasTaken, PutsResidual, PutsAll, taken_count}
 use Rattle.block_adaptive.proofs.Packing.{values_held}
 use Rattle.header_bits.proofs.Items.{all_append}
-use Rattle.header_bits.proofs.Sums.{sum_append}
+use Rattle.block_adaptive.proofs.ListSums.{sum_append}
 
 -- ---- the values held
 
@@ -22,10 +22,10 @@ stored_more c i counted total held list h range few more = grind (arith, all_app
 -- ---- what was taken
 
 -- the numbers of a list were put
-pub record Puts (list : List ℕ) (old : Packed) (written : List Bool) (new : Packed) (now : List Bool) : Type 0 where
+pub record Puts (list : List ℕ) (old : WriterState) (written : List Bool) (new : WriterState) (now : List Bool) : Type 0 where
   pub puts : PutsAll list old written new now
 
-module _ {old v new : Packed} {written now later : List Bool} where
+module _ {old v new : WriterState} {written now later : List Bool} where
   puts_after : {a : List ℕ} (b : List ℕ) → Puts a old written v now → PutsAll b v now new later → Puts (a ++ b) old written new later
   puts_after {a} b first second = record {
     puts = λ taken bits h.
@@ -42,11 +42,11 @@ module _ {old v new : Packed} {written now later : List Bool} where
       let e : first + size - first ≡ size = omega arith in
       rw (take-add first count list) (puts_after _ h (rw (e, take-take count size (drop first list) le) at more))
 
-  pub number_more : (list : List ℕ) (n : ℕ) → Puts (take n list) old written v now → n < length list → PutsNumber (get_or list n 0) v now new later
+  pub number_more : (list : List ℕ) (n : ℕ) → Puts (take n list) old written v now → n < length list → PutsResidual (get_or list n 0) v now new later
       → Puts (take (n + 1) list) old written new later
   number_more list n h lt number = rw (take_more list n 0 lt) (puts_after (get_or list n 0 ∷ []) h number)
 
-module _ {old v new : Packed} {written now : List Bool} where
+module _ {old v new : WriterState} {written now : List Bool} where
   pub hold_more : (list : List ℕ) (first count : ℕ) → Puts (take first list) old written v now
       → new ≡ record v { held = v.held ++ take (first + count - first) (drop first list) } → Puts (take (first + count) list) old written new now
   hold_more list first count h is =
@@ -55,12 +55,12 @@ module _ {old v new : Packed} {written now : List Bool} where
       rw (take-add first count list) (puts_after _ h here)
 
 -- a refused call leaves what it left before
-module _ {old v : Packed} {list : List ℕ} {written now : List Bool} where
-  pub after_refusal : (r : Result (Unit {0}) Fault) (new : Packed) (later : List Bool) → ((x : Unit {0}) → r ≡ Ok x → ⊥) → OnErr r ((new ≡ v) × (later ≡ now))
+module _ {old v : WriterState} {list : List ℕ} {written now : List Bool} where
+  pub after_refusal : (r : Result (Unit {0}) Fault) (new : WriterState) (later : List Bool) → ((x : Unit {0}) → r ≡ Ok x → ⊥) → OnErr r ((new ≡ v) × (later ≡ now))
       → Puts list old written v now → PutsAll list old written new later
   after_refusal (Ok x) new later never same h = absurd (never x refl)
   after_refusal (Err e) new later never same h = rw (same.0, same.1) h.puts
 
-pub held_counted : (v new : Packed) (list : List ℕ) (first count : ℕ) → first + count ≤ length list
+pub held_counted : (v new : WriterState) (list : List ℕ) (first count : ℕ) → first + count ≤ length list
     → new ≡ record v { held = v.held ++ take (first + count - first) (drop first list) } → taken_count new ≡ taken_count v + count
 held_counted v new list first count le is = grind (arith, length-append, length-drop, length-take)

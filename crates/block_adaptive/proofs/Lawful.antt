@@ -12,7 +12,7 @@ use Rattle.block_adaptive.specs.Chosen.{chosen_option, is_zero, zero_blocks, dat
 use Rattle.block_adaptive.specs.Laws.{AreBlocks, ChosenIsLawful}
 use Rattle.block_adaptive.proofs.Tried.{option_is_least}
 use Rattle.header_bits.proofs.Items.{all_drop}
-use Rattle.header_bits.proofs.Powers.{and_true}
+use Rattle.block_adaptive.proofs.Powers.{and_true}
 
 -- ---- runs
 

@@ -30,3 +30,12 @@ pub mod Holds
 pub mod Segmented
 pub mod Stable
 pub mod Growing
+pub mod Longer
+pub mod Tops
+pub mod Intervals
+pub mod WordTexts
+pub mod FourValues
+pub mod ListSums
+pub mod Powers
+pub mod Zeros
+pub mod Places

@@ -10,8 +10,8 @@ use Rattle.block_adaptive.specs.declared.ahead.Ahead.{Ahead}
 use Rattle.block_adaptive.specs.Ahead.{IsAhead, IsWord, Uses, used}
 use Rattle.block_adaptive.specs.Reading.{Site, fundamental_at}
 use Rattle.block_adaptive.proofs.Codes.{fundamental_again}
-use Rattle.header_bits.proofs.Tops.{IsTop, parts}
-use Rattle.header_bits.proofs.Zeros.{length-fundamental}
+use Rattle.block_adaptive.proofs.Tops.{IsTop, parts}
+use Rattle.block_adaptive.proofs.Zeros.{length-fundamental}
 
 -- the bits ahead are those of a code and what is ahead after it
 uses : (a b : Ahead) (text left : List Bool) → b.peeked ≡ a.peeked → b.known + length text ≡ a.known → bits_of a.known a.word ≡ text ++ bits_of b.known b.word

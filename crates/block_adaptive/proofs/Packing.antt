@@ -10,15 +10,15 @@ use Rattle.block_adaptive.specs.DataSets.{Cut, left_at, spelling, values_of}
 use Rattle.block_adaptive.specs.Chosen.{chosen_from, chosen_data_sets, chosen_block_body, is_zero}
 use Rattle.block_adaptive.specs.Laws.{AreBlocks}
 use Rattle.block_adaptive.specs.Settings.{IsCut}
-use Rattle.block_adaptive.specs.Taken.{Packed, HasTaken, PutsAll, EndsBody, run_and_block, data_sets_after, zeros_after, packed, data_sets_packed}
+use Rattle.block_adaptive.specs.Taken.{WriterState, HasTaken, PutsAll, EndsBody, run_and_block, data_sets_after, zeros_after, packed, data_sets_packed}
 use Rattle.block_adaptive.proofs.Lawful.{rest_least, zeros_of}
 use Rattle.block_adaptive.proofs.Streaming.{enough, block_next, run_next, run_to_end, none_chosen}
 use Rattle.block_adaptive.proofs.Handed.{rest_most, size_least}
 use Rattle.header_bits.proofs.Items.{all_append, all_replicate}
 use Rattle.std.proofs.lemmas.Grind.{flat_map-append}
-use Rattle.header_bits.specs.Rows.{zeros}
+use Rattle.header_bits.specs.Examples.{zeros}
 use Rattle.std.proofs.lemmas.Bool.Decides.{nat_tests}
-use Rattle.header_bits.proofs.Intervals.{count_even, count_odd}
+use Rattle.block_adaptive.proofs.Intervals.{count_even, count_odd}
 
 -- ---- one block more, in the chosen data sets
 
@@ -60,12 +60,12 @@ after_start c start held b p = grind (arith, nat_tests)
 
 -- ---- values that are held, and one block more
 
-pub values_taken : (v : Packed) (taken : List ℕ) (bits : List Bool) (xs : List ℕ) → HasTaken v taken bits
+pub values_taken : (v : WriterState) (taken : List ℕ) (bits : List Bool) (xs : List ℕ) → HasTaken v taken bits
     → HasTaken (record v { held = v.held ++ xs }) (taken ++ xs) bits
 values_taken v taken bits xs h = grind (arith, append_assoc)
 
 -- the blocks are those before and this one
-pub block_taken : (v : Packed) (taken told : List ℕ) (bits : List Bool) (b : List ℕ) → IsCut v.cut → v.start + v.zeros < v.cut.count
+pub block_taken : (v : WriterState) (taken told : List ℕ) (bits : List Bool) (b : List ℕ) → IsCut v.cut → v.start + v.zeros < v.cut.count
     → length b ≡ v.cut.size → AllByRecursion (λ x. x < 2 ^ v.cut.set.bits) b → (h : HasTaken v taken bits) → told ≡ values_of (h.blocks ++ b ∷ [])
     → (after : HasTaken (packed v b) told (bits ++ data_sets_packed v b)) × (after.blocks ≡ h.blocks ++ b ∷ [])
 block_taken v taken told bits b cut more len range h is = (
@@ -82,7 +82,7 @@ block_taken v taken told bits b cut more len range h is = (
 
 -- ---- all blocks
 
-pub all_taken : (v : Packed) (taken : List ℕ) (bits : List Bool) → (h : HasTaken v taken bits) → length h.blocks ≡ v.cut.count
+pub all_taken : (v : WriterState) (taken : List ℕ) (bits : List Bool) → (h : HasTaken v taken bits) → length h.blocks ≡ v.cut.count
     → bits ≡ spelling v.cut.set (chosen_from v.cut v.cut.count 0 h.blocks)
 all_taken v taken bits h all =
     let none : v.zeros ≡ 0 = elim (cases_lt 0 v.zeros) [
@@ -131,12 +131,12 @@ unfolding blocks first_blocks
 blocks_odd s size bs held least most h = grind (arith, count_odd, first_of_blocks, length-append, take_all, values_length)
 
 -- the chosen body of numbers whose blocks are known
-body_of_blocks : (v : Packed) (taken : List ℕ) (bs : List (List ℕ)) → block_count v.cut.size (length taken) ≡ v.cut.count → blocks v.cut.size taken ≡ bs
+body_of_blocks : (v : WriterState) (taken : List ℕ) (bs : List (List ℕ)) → block_count v.cut.size (length taken) ≡ v.cut.count → blocks v.cut.size taken ≡ bs
     → length bs ≡ v.cut.count → chosen_block_body v.cut.set v.cut.size v.cut.reference taken ≡ spelling v.cut.set (chosen_from v.cut v.cut.count 0 bs)
 unfolding chosen_block_body chosen_data_sets
 body_of_blocks v taken bs count is len = rw (is, count, len) refl
 
-pub nothing_left : (v : Packed) (written : List Bool) → IsCut v.cut → v.held ≡ [] → EndsBody v written written
+pub nothing_left : (v : WriterState) (written : List Bool) → IsCut v.cut → v.held ≡ [] → EndsBody v written written
 nothing_left v written cut none = λ taken bits h count.
     let pos : 1 ≤ v.cut.size = omega (arith, size_least _ cut.size) in
     let numbers : taken ≡ values_of h.blocks ++ [] = h.numbers ∙ (λ i. values_of h.blocks ++ none i) in
@@ -146,7 +146,7 @@ nothing_left v written cut none = λ taken bits h count.
     let len : length h.blocks ≡ v.cut.count = sym (count_even _ (length h.blocks) pos) ∙ ap (block_count v.cut.size) (sym size) ∙ count in
     ([], sym (append-nil _), append-nil bits ∙ all_taken _ taken bits h len ∙ sym (body_of_blocks v taken h.blocks count all len))
 
-pub last_block : (v : Packed) (written now : List Bool) → IsCut v.cut → 1 ≤ length v.held → length v.held ≤ v.cut.size → v.start + v.zeros < v.cut.count
+pub last_block : (v : WriterState) (written now : List Bool) → IsCut v.cut → 1 ≤ length v.held → length v.held ≤ v.cut.size → v.start + v.zeros < v.cut.count
     → AllByRecursion (λ x. x < 2 ^ v.cut.set.bits) (filled v.cut.size v.held) → now ≡ written ++ data_sets_packed v (filled v.cut.size v.held)
     → EndsBody v written now
 last_block v written now cut least most more range is = λ taken bits h count.
@@ -165,10 +165,10 @@ last_block v written now cut least most more range is = λ taken bits h count.
 
 -- ---- numbers more
 
-pub values_held : (v new : Packed) (written : List Bool) (xs : List ℕ) → new ≡ record v { held = v.held ++ xs } → PutsAll xs v written new written
+pub values_held : (v new : WriterState) (written : List Bool) (xs : List ℕ) → new ≡ record v { held = v.held ++ xs } → PutsAll xs v written new written
 values_held v new written xs is = λ taken bits h. ([], sym (append-nil _), rw (is, append-nil bits) (values_taken _ taken bits _ h))
 
-pub values_packed : (v new : Packed) (written now : List Bool) (xs : List ℕ) → IsCut v.cut → v.start + v.zeros < v.cut.count
+pub values_packed : (v new : WriterState) (written now : List Bool) (xs : List ℕ) → IsCut v.cut → v.start + v.zeros < v.cut.count
     → length (v.held ++ xs) ≡ v.cut.size → AllByRecursion (λ y. y < 2 ^ v.cut.set.bits) (v.held ++ xs) → now ≡ written ++ data_sets_packed v (v.held ++ xs)
     → new ≡ packed v (v.held ++ xs) → PutsAll xs v written new now
 values_packed v new written now xs cut more len range data_sets is = λ taken bits h.

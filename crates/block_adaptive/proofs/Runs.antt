@@ -9,15 +9,15 @@ use Rattle.header_bits.proofs.Reading.{ok_is}
 use Rattle.header_bits.proofs.Fronts.{bind_ok}
 use Rattle.block_adaptive.specs.Settings.{IsCut}
 use Rattle.block_adaptive.specs.Reading.{data_sets_at}
-use Rattle.block_adaptive.specs.Given.{Unpacked, HasGiven, GivesFront, GivesAll, holding, next_data_set}
+use Rattle.block_adaptive.specs.Given.{ReaderState, HasGiven, GivesFront, GivesAll, holding, next_data_set}
 use Rattle.block_adaptive.proofs.Handed.{data_set_given}
 use Rattle.header_bits.proofs.Items.{all_append, all_first, all_last, all_replicate}
 use Rattle.std.proofs.lemmas.Grind.{flat_map-append}
 use Rattle.block_adaptive.specs.declared.options.CodeSet.{CodeSet}
 use Rattle.block_adaptive.specs.DataSets.{CodedDataSet, Block as Whole, Run, RestOfSegment, Cut, left_at, IsCodedDataSet, AreCodedDataSets, blocks_of}
 use Rattle.block_adaptive.specs.DataSets.{blocks_told, values_of, spelled, blocks_in}
-use Rattle.header_bits.specs.Rows.{zeros}
-use Rattle.header_bits.proofs.Places.{values_of_zeros}
+use Rattle.header_bits.specs.Examples.{zeros}
+use Rattle.block_adaptive.proofs.Places.{values_of_zeros}
 
 -- ---- in range
 
@@ -38,19 +38,19 @@ told_range c i j (t ∷ data_sets) h =
     rw flat_map-append (all_append _ (values_of (blocks_of c.size (left_at c i) t)) _ (data_set_range _ _ _ t h.0)
     (told_range c (i + blocks_in (left_at c i) t) j data_sets h.1))
 
-list_range : (v : Unpacked) (given list : List ℕ) (bits : List Bool) → HasGiven v (given ++ list) bits → AllByRecursion (λ n. n < 2 ^ v.cut.set.bits) list
+list_range : (v : ReaderState) (given list : List ℕ) (bits : List Bool) → HasGiven v (given ++ list) bits → AllByRecursion (λ n. n < 2 ^ v.cut.set.bits) list
 list_range v given list bits h =
     let all = subst (λ (vs : List ℕ). AllByRecursion (λ n. n < 2 ^ v.cut.set.bits) vs) h.told (told_range _ _ _ h.data_sets h.lawful) in
     all_last _ given _ (all_first _ (given ++ list) v.held all)
 
 -- ---- what was given
 
-pub values_given : (v new : Unpacked) (given list : List ℕ) (bits : List Bool) → HasGiven v given bits → GivesFront v list new
+pub values_given : (v new : ReaderState) (given list : List ℕ) (bits : List Bool) → HasGiven v given bits → GivesFront v list new
     → HasGiven new (given ++ list) bits
 values_given v new given list bits h front = grind (arith, append_assoc)
 
 -- out of what was in hand
-pub held_run : (v new : Unpacked) (list : List ℕ) (unread : List Bool) → GivesFront v list new → (given : List ℕ) (bits : List Bool) → HasGiven v given bits
+pub held_run : (v new : ReaderState) (list : List ℕ) (unread : List Bool) → GivesFront v list new → (given : List ℕ) (bits : List Bool) → HasGiven v given bits
     → GivesAll v given bits unread new unread list
 held_run v new list unread front given bits h =
     let has : HasGiven new (given ++ list) bits = values_given _ _ _ _ _ h front in
@@ -58,7 +58,7 @@ held_run v new list unread front given bits h =
     (subst (λ (c : Cut). AllByRecursion (λ n. n < 2 ^ c.set.bits) list) same (list_range _ _ _ _ has), [], refl, rw (append-nil _) has)
 
 -- out of the data set that came next
-pub taken_run : (v held new : Unpacked) (reader : Unread) (left : List Bool) (list : List ℕ) → IsCut v.cut → v.block < v.cut.count → v.held ≡ []
+pub taken_run : (v held new : ReaderState) (reader : Unread) (left : List Bool) (list : List ℕ) → IsCut v.cut → v.block < v.cut.count → v.held ≡ []
     → next_data_set v reader ≡ Ok (held, left) → GivesFront held list new → (given : List ℕ) (bits : List Bool) → HasGiven v given bits
     → GivesAll v given bits reader.left new left list
 taken_run v held new reader left list cut more none e front given bits h =
@@ -77,12 +77,12 @@ taken_run v held new reader left list cut more none e front given bits h =
     )
 
 -- the refusal that was met is as before
-pub taken_kept : (v held : Unpacked) (reader : Unread) (left : List Bool) → next_data_set v reader ≡ Ok (held, left) → held.refused ≡ v.refused
+pub taken_kept : (v held : ReaderState) (reader : Unread) (left : List Bool) → next_data_set v reader ≡ Ok (held, left) → held.refused ≡ v.refused
 taken_kept v held reader left e = grind arith
 
 -- ---- one run after another
 
-pub runs_joined : (v mid new : Unpacked) (given xs ys : List ℕ) (bits unread now left : List Bool) → mid.cut ≡ v.cut
+pub runs_joined : (v mid new : ReaderState) (given xs ys : List ℕ) (bits unread now left : List Bool) → mid.cut ≡ v.cut
     → (g : GivesAll v given bits unread mid now xs) → GivesAll mid (given ++ xs) (bits ++ g.1) now new left ys
     → GivesAll v given bits unread new left (xs ++ ys)
 runs_joined v mid new given xs ys bits unread now left same g m = (
@@ -93,7 +93,7 @@ runs_joined v mid new given xs ys bits unread now left same g m = (
 )
 
 -- a refusal after numbers that were given is that of the body
-pub run_refused : (v mid : Unpacked) (count now_count : ℕ) (xs given : List ℕ) (bits unread now : List Bool) (e : Fault) → mid.cut ≡ v.cut → now_count ≡ count
+pub run_refused : (v mid : ReaderState) (count now_count : ℕ) (xs given : List ℕ) (bits unread now : List Bool) (e : Fault) → mid.cut ≡ v.cut → now_count ≡ count
     → (g : GivesAll v given bits unread mid now xs) → ((ns : List ℕ) (bs : List Bool) → HasGiven mid ns bs
     → data_sets_at now_count mid.cut mid.cut.count 0 (bs ++ now) ≡ Err e) → data_sets_at count v.cut v.cut.count 0 (bits ++ unread) ≡ Err e
 run_refused v mid count now_count xs given bits unread now e same counts g bad =

@@ -16,9 +16,9 @@ use Rattle.block_adaptive.proofs.Bodies.{data_set_most, data_sets_few, data_set_
 use Rattle.block_adaptive.proofs.Costs.{uncoded_cost, second_cost, split_cost, quotients_least, pairs_more}
 use Rattle.block_adaptive.proofs.Again.{width_least}
 use Rattle.block_adaptive.proofs.Lawful.{rest_least}
-use Rattle.header_bits.proofs.Sums.{sum_cons}
-use Rattle.header_bits.proofs.Intervals.{begun, begun_none, few_at, begun_within}
-use Rattle.header_bits.proofs.Zeros.{length-fundamental}
+use Rattle.block_adaptive.proofs.ListSums.{sum_cons}
+use Rattle.block_adaptive.proofs.Intervals.{begun, begun_none, few_at, begun_within}
+use Rattle.block_adaptive.proofs.Zeros.{length-fundamental}
 
 -- ---- a segment's length from a place on
 

@@ -7,8 +7,8 @@ use Rattle.block_adaptive.specs.declared.options.CodeSet.{CodeSet}
 use Rattle.block_adaptive.specs.declared.options.Choice.TheVariants.{Second, Split}
 use Rattle.block_adaptive.specs.Options.{quotient_codes, pair_codes, pair_number, cost}
 use Rattle.block_adaptive.proofs.Costs.{quotients_cons, pairs_more, second_cost, split_cost}
-use Rattle.header_bits.proofs.Powers.{falls_one, rises_one}
-use Rattle.header_bits.proofs.Zeros.{length-fundamental}
+use Rattle.block_adaptive.proofs.Powers.{falls_one, rises_one}
+use Rattle.block_adaptive.proofs.Zeros.{length-fundamental}
 
 -- ---- the quotients of a block
 

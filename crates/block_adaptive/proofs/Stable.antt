@@ -3,7 +3,7 @@ use Rattle.std.proofs.Common.{◌≡◌, ◌⊎◌, ◌+◌, ◌-◌, ◌*◌, �
 use Rattle.std.proofs.Common.{◌∙◌, inl, inr, arith}
 use Rattle.cube_core.specs.declared.fault.Fault.{Fault}
 use Rattle.cube_core.specs.declared.fault.Fault.TheVariants.{Truncated}
-use Rattle.header_bits.proofs.Longer.{Goes, goes_then, goes_if, goes_guard, number_goes, zeros_goes}
+use Rattle.block_adaptive.proofs.Longer.{Goes, goes_then, goes_if, goes_guard, number_goes, zeros_goes}
 use Rattle.block_adaptive.specs.declared.options.CodeSet.{CodeSet}
 use Rattle.block_adaptive.specs.declared.options.Choice.{Choice}
 use Rattle.block_adaptive.specs.Options.{width, greatest_value}

@@ -9,7 +9,7 @@ use Rattle.block_adaptive.specs.Taken.{zeros_after}
 use Rattle.block_adaptive.proofs.Lawful.{rest_least}
 use Rattle.block_adaptive.proofs.Handed.{size_least, size_most}
 use Rattle.block_adaptive.proofs.Packing.{after_in_range, after_start}
-use Rattle.header_bits.proofs.Sums.{sum_most}
+use Rattle.block_adaptive.proofs.ListSums.{sum_most}
 
 -- the blocks of zeros that are held are fewer than the segment has left
 pub held_inside : (c : Cut) (i counted total : ℕ) (held : List ℕ) → AreStored c i counted total held → i + counted < c.count → counted < left_at c i

@@ -7,7 +7,7 @@ use Rattle.block_adaptive.specs.declared.options.Choice.TheVariants.{Split}
 use Rattle.block_adaptive.specs.Options.{width, quotient_codes, quotient_sum, cost}
 use Rattle.block_adaptive.specs.Chosen.{is_zero}
 use Rattle.block_adaptive.proofs.Costs.{quotients_cons, split_cost}
-use Rattle.header_bits.proofs.Sums.{sum_cons}
+use Rattle.block_adaptive.proofs.ListSums.{sum_cons}
 
 -- each quotient has a bit more
 pub quotients_length : (k : ℕ) (vs : List ℕ) → length (quotient_codes k vs) ≡ quotient_sum k vs + length vs

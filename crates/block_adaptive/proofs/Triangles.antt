@@ -8,7 +8,7 @@ use Rattle.cube_core.proofs.Greatest.{greatest_is}
 use Rattle.block_adaptive.specs.Options.{pair_number, pair_codes}
 use Rattle.block_adaptive.specs.Reading.{Site, pair_sum, pair_of, pairs_at}
 use Rattle.block_adaptive.proofs.Codes.{fundamental_again}
-use Rattle.header_bits.proofs.Sums.{double_triangle, triangle_grows, triangle_step}
+use Rattle.block_adaptive.proofs.ListSums.{double_triangle, triangle_grows, triangle_step}
 
 pub pair_sum_is : (most a b : ℕ) → a ≤ most → b ≤ most → pair_sum most (pair_number a b) ≡ a + b
 unfolding pair_sum

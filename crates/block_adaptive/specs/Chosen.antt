@@ -1,4 +1,4 @@
--- The body that the coder writes (CCSDS 121.0-B, "Code option selection").
+-- The body that is written (CCSDS 121.0-B, "Code option selection").
 use Rattle.std.specs.Prelude.{ℕ, zero, suc, ◌+◌, ◌<◌, ◌≤◌, ◌≡◌, ◌⊎◌, ◌==◌, nat_le, nat_lt, ◌&&◌, Bool, true, List, [], ◌∷◌, length, drop, if◌then◌else◌}
 use Rattle.block_adaptive.specs.declared.options.CodeSet.{CodeSet}
 use Rattle.block_adaptive.specs.declared.options.Choice.{Choice}
@@ -7,25 +7,26 @@ use Rattle.block_adaptive.specs.Options.{splits, cost, IsOption}
 use Rattle.block_adaptive.specs.Segments.{blocks}
 use Rattle.block_adaptive.specs.DataSets.{CodedDataSet, Block, Run, RestOfSegment, Cut, cut_of, left_at, blocks_in, spelling}
 
--- the first of two options, unless the second is shorter
+-- option a, unless option b is shorter
 abbrev pub shorter : CodeSet → List ℕ → Choice → Choice → Choice
 shorter s values a b = if nat_lt (cost s b values) (cost s a values) then b else a
 
--- the shortest of uncoded, the second extension and the n smallest k, the first in this order where several are
+-- the shortest of uncoded, the second extension and split-sample with k < n; of equally short ones the first in this order
 unfoldable pub shortest : CodeSet → List ℕ → ℕ → Choice
 shortest s values zero = shorter s values Uncoded Second
 shortest s values (suc k) = shorter s values (shortest s values k) (Split k)
 
+-- the option of a block: the shortest of the set
 unfoldable pub chosen_option : CodeSet → List ℕ → Choice
 chosen_option s values = shortest s values (splits s)
 
--- the order in which options come first where they are as short
+-- the rank of an option among equally short ones
 abbrev pub turn : Choice → ℕ
 turn Uncoded = 0
 turn Second = 1
 turn (Split k) = k + 2
 
--- no option is shorter, and none that is as short comes first
+-- each other option is longer, or equally short and not of a lower rank
 abbrev pub IsChosen : CodeSet → List ℕ → Choice → Type 0
 IsChosen s values o = IsOption s o × ((p : Choice) → IsOption s p → (cost s o values < cost s p values) ⊎ ((cost s o values ≡ cost s p values)
     × (turn o ≤ turn p)))
@@ -34,13 +35,14 @@ abbrev pub is_zero : List ℕ → Bool
 is_zero [] = true
 is_zero (v ∷ values) = v == 0 && is_zero values
 
--- how many of the first n blocks are zeros, up to the first that isn't
+-- the number of zero blocks before the first other block, at most n
 abbrev pub zero_blocks : ℕ → List (List ℕ) → ℕ
 zero_blocks zero bs = 0
 zero_blocks (suc n) [] = 0
 zero_blocks (suc n) (b ∷ bs) = if is_zero b then suc (zero_blocks n bs) else 0
 
--- the data set of the blocks ahead, the first of which is b: zero blocks in the longest run, by the rest code where they are the rest and at least 5
+-- the data set for block b and those after it: all zero blocks at the front as one run, with the code for the rest of the segment if they are that rest and
+-- at least 5
 abbrev pub data_set_of : CodeSet → ℕ → List ℕ → List (List ℕ) → CodedDataSet
 data_set_of s left b bs =
     let n = zero_blocks left (b ∷ bs) in
@@ -48,7 +50,7 @@ data_set_of s left b bs =
     else if n == left && nat_le 5 n then RestOfSegment
     else Run n
 
--- the data sets of the blocks from block i on, n data sets at most
+-- the data sets of the blocks from block i on, at most n
 unfoldable pub chosen_from : Cut → ℕ → ℕ → List (List ℕ) → List CodedDataSet
 chosen_from c zero i bs = []
 chosen_from c (suc n) i [] = []
@@ -60,6 +62,6 @@ unfoldable pub chosen_data_sets : CodeSet → ℕ → ℕ → List ℕ → List 
 chosen_data_sets s size reference numbers =
     chosen_from (cut_of s size reference (length numbers)) (length (blocks size numbers)) 0 (blocks size numbers)
 
--- the body of numbers
+-- the body of residuals
 unfoldable pub chosen_block_body : CodeSet → ℕ → ℕ → List ℕ → List Bool
 chosen_block_body s size reference numbers = spelling s (chosen_data_sets s size reference numbers)

@@ -1,11 +1,11 @@
--- What the parts of a reader and of a writer of blocks keep.
+-- The invariants of a reader and of a writer of blocks.
 use Rattle.std.specs.Prelude.{ℕ, ◌≡◌, ◌⊎◌, ◌+◌, ◌-◌, ◌*◌, ◌^◌, ◌<◌, ◌≤◌, List, length, sum}
 use Rattle.std.specs.List.{AllByRecursion}
 use Rattle.block_adaptive.specs.DataSets.{Cut, left_at}
 use Rattle.block_adaptive.specs.Settings.{IsCut}
 
--- a reader's parts: next comes block i; of the block in the array so many values were given; so many zeros are counted.
--- What is in hand lies in the array or is counted, not both, and is of the blocks before i
+-- a reader: block i is the next to be read; `given` values of the block in the array were returned, and `counted` zeros are still to be returned.
+-- The values to be returned are either in the array or counted as zeros, never both, and precede block i
 pub record AreParts (c : Cut) (i given counted : ℕ) : Type 0 where
   pub cut : IsCut c
   pub block : i ≤ c.count
@@ -14,8 +14,8 @@ pub record AreParts (c : Cut) (i given counted : ℕ) : Type 0 where
   pub few : counted ≤ 4096
   pub earlier : c.size - given + counted ≤ i * c.size
 
--- a writer's parts: from block i on nothing was written, of which so many are zeros that are held, fewer than the segment has left;
--- of the next block so many values are there, fewer than a block has, with this sum
+-- a writer: nothing was written from block i on; `zeros` zero blocks are held from there on, fewer than are left in the segment;
+-- of the block after them the values `held` are there, fewer than J, whose sum is `total`
 pub record AreStored (c : Cut) (i zeros total : ℕ) (held : List ℕ) : Type 0 where
   pub cut : IsCut c
   pub block : i + zeros ≤ c.count

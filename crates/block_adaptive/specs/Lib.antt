@@ -1,6 +1,6 @@
 pub mod Ahead
 pub mod Chosen
-pub mod Everything
+pub mod Unfold
 pub mod Given
 pub mod Holding
 pub mod Laws
@@ -8,9 +8,9 @@ pub mod Options
 pub mod Positions
 pub mod Prefixes
 pub mod Reading
-pub mod Rows
+pub mod Examples
 pub mod Segments
 pub mod Taken
 pub mod DataSets
 pub mod Settings
-pub mod Told
+pub mod DataSetKinds

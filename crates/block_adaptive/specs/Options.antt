@@ -6,19 +6,19 @@ use Rattle.block_adaptive.specs.declared.options.CodeSet.{CodeSet}
 use Rattle.block_adaptive.specs.declared.options.Choice.{Choice}
 use Rattle.block_adaptive.specs.declared.options.Choice.TheVariants.{Uncoded, Second, Split}
 
--- how many bits an identifier has: 3 up to D = 8, else 4; of the restricted set 1 at D = 2, else 2; zero blocks and the second extension have one more
+-- the number of bits of an identifier: 3 if D ≤ 8, else 4; in the restricted set 1 if D = 2, else 2; zero blocks and the second extension have one more
 abbrev pub width : CodeSet → ℕ
 width s = if s.restricted && nat_le s.bits 4 then (if nat_le s.bits 2 then 1 else 2) else if nat_le s.bits 8 then 3 else 4
 
--- how many k the split-sample options have
+-- the number of split-sample options: k from 0 to one less
 abbrev pub splits : CodeSet → ℕ
 splits s = 2 ^ width s - 2
 
--- zero blocks: zeros alone
+-- the identifier of zero blocks: zeros
 unfoldable pub zero_identifier : CodeSet → List Bool
 zero_identifier s = replicate (width s) false ++ false ∷ []
 
--- uncoded: ones alone; the second extension: zeros and a one; split-sample: the number k + 1
+-- the identifier of uncoded: ones; of the second extension: zeros and a one; of split-sample: the number k + 1
 unfoldable pub identifier : CodeSet → Choice → List Bool
 identifier s Uncoded = replicate (width s) true
 identifier s Second = replicate (width s) false ++ true ∷ []
@@ -60,7 +60,7 @@ coded s (Split k) values = quotient_codes k values ++ low_groups k values
 unfoldable pub option_text : CodeSet → Choice → List ℕ → List Bool
 option_text s o values = identifier s o ++ coded s o values
 
--- how many bits it has
+-- the number of its bits
 abbrev pub cost : CodeSet → Choice → List ℕ → ℕ
 cost s o values = length (option_text s o values)
 

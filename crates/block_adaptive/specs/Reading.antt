@@ -1,4 +1,4 @@
--- Reading data sets from the front of the bits, with the first fault that is met.
+-- Reading data sets from the front of the bits, with the first fault.
 use Rattle.std.specs.Prelude.{ℕ, zero, suc, ◌+◌, ◌-◌, ◌*◌, ◌/◌, ◌^◌, ◌==◌, nat_le, nat_lt, max, Bool, List, [], ◌∷◌, Result, Ok, Err, Option}
 use Rattle.std.specs.Prelude.{if◌then◌else◌}
 use Rattle.cube_core.specs.declared.fault.Fault.{Fault}
@@ -13,7 +13,7 @@ use Rattle.block_adaptive.specs.declared.options.Choice.TheVariants.{Uncoded, Se
 use Rattle.block_adaptive.specs.Options.{width, greatest_value}
 use Rattle.block_adaptive.specs.DataSets.{CodedDataSet, Block, Run, RestOfSegment, Cut, cut_of, left_at, blocks_in}
 
--- what refusals name: how many bits the file has, and the block at which a data set begins
+-- what refusals name: the number of bits of the file, and the block at which a data set begins
 pub record Site : Type 0 where
   pub count : ℕ
   pub block : ℕ
@@ -22,7 +22,7 @@ pub record Site : Type 0 where
 abbrev pub site_of : Unread → ℕ → Site
 site_of reader block = record { count = reader.count; block = block }
 
--- a fundamental sequence of so many zeros at most
+-- a fundamental sequence of at most `most` zeros
 unfoldable pub fundamental_at : Site → ℕ → Reading ℕ
 fundamental_at s most bits = do
   z ← zeros_at s.count (suc most) bits
@@ -56,7 +56,7 @@ split_at s k most n bits = do
   qs ← quotients_at s (most / 2 ^ k) n bits
   lows_at s k most qs.0 qs.1
 
--- n numbers of so many bits
+-- n values of `depth` bits each
 unfoldable pub words_at : ℕ → ℕ → ℕ → Reading (List ℕ)
 words_at count depth zero bits = Ok ([], bits)
 words_at count depth (suc n) bits = do
@@ -64,11 +64,11 @@ words_at count depth (suc n) bits = do
   vs ← words_at count depth n v.1
   Ok (v.0 ∷ vs.0, vs.1)
 
--- the sum of the pair with this number, where no value is above the most
+-- the sum of the pair whose number is m, if no value is above `most`
 unfoldable pub pair_sum : ℕ → ℕ → ℕ
 pair_sum most m = greatest (λ sum. nat_le (sum * (sum + 1) / 2) m) (2 * most)
 
--- the pair with this number, each of its values checked
+-- the pair whose number is m; a value above `most` is refused
 unfoldable pub pair_of : Site → ℕ → ℕ → Reading (ℕ × ℕ)
 pair_of s most m rest =
     let sum = pair_sum most m in
@@ -84,7 +84,7 @@ pairs_at s most (suc n) bits = do
   vs ← pairs_at s most n p.1
   Ok (p.0.0 ∷ p.0.1 ∷ vs.0, vs.1)
 
--- a run code where so many blocks are left
+-- a run code, if `left` blocks are left in the segment
 unfoldable pub run_at : Site → ℕ → Reading CodedDataSet
 run_at s left bits = do
   z ← zeros_at s.count (suc (max 4 left)) bits
@@ -104,7 +104,7 @@ data_set_at s set size left bits = do
       else if n.0 == 2 ^ width set - 1 then block_read Uncoded (words_at s.count set.bits size n.1)
       else block_read (Split (n.0 - 1)) (split_at s (n.0 - 1) (greatest_value set) size n.1)
 
--- the data sets from block i to the last, n data sets at most
+-- the data sets from block i to the last block, at most n
 unfoldable pub data_sets_at : ℕ → Cut → ℕ → ℕ → Reading (List CodedDataSet)
 data_sets_at count c zero i bits = Ok ([], bits)
 data_sets_at count c (suc n) i bits =
@@ -112,11 +112,11 @@ data_sets_at count c (suc n) i bits =
     else (data_set_at (record { count = count; block = i }) c.set c.size (left_at c i) bits >>= λ t.
     data_sets_at count c n (i + blocks_in (left_at c i) t.0) t.1 >>= λ ts. Ok (t.0 ∷ ts.0, ts.1))
 
--- the data sets of a body of n numbers
+-- the data sets of a body of n residuals
 unfoldable pub block_body_at : ℕ → CodeSet → ℕ → ℕ → ℕ → Reading (List CodedDataSet)
 block_body_at count s size reference n bits =
     data_sets_at count (cut_of s size reference n) (cut_of s size reference n).count 0 bits
 
--- the first fault of a body of n numbers: lawful data sets from the front, and then the first part of a data set that isn't lawful
+-- the first fault of a body of n residuals: that of the first data set that isn't lawful
 abbrev pub block_body_fault : ℕ → CodeSet → ℕ → ℕ → ℕ → List Bool → Option Fault
 block_body_fault count s size reference n bits = fault_of (block_body_at count s size reference n bits)

@@ -1,4 +1,4 @@
-//! The next bits, as a number: one look at them serves several codes.
+//! The next bits of a reader, looked at once for several codes.
 
 ghost use Rattle.std.specs.Prelude.{◌≡◌, ◌≤◌, ◌<◌, ◌^◌, ℕ, List, Bool, drop, IfSome};
 ghost use Rattle.header_bits.specs.Bits.{fundamental};
@@ -6,12 +6,12 @@ ghost use Rattle.block_adaptive.specs.Ahead.{IsAhead, IsWord, Uses, used};
 
 use header_bits::bit_reader::BitReader;
 
-/// The bits that were looked at and aren't used yet.
+/// Bits that were looked at, and some of which aren't used yet.
 #[derive(Clone, Copy, Drop)]
 pub(crate) struct Ahead {
     /// How many bits were looked at.
     peeked: u32,
-    /// How many of them aren't used yet.
+    /// How many of them, the last, aren't used yet.
     known: u32,
     /// A number whose lowest bits are those.
     word: u64,

@@ -7,11 +7,11 @@ ghost use Rattle.header_bits.specs.Reading.{Reads};
 ghost use Rattle.block_adaptive.specs.DataSets.{Cut, left_at, capacity, values_of};
 ghost use Rattle.cube_core.specs.Shape.{sample_count};
 ghost use Rattle.block_adaptive.specs.Settings.{AreForBlocks, IsCutOf, cut_by};
-ghost use Rattle.block_adaptive.specs.Given.{Unpacked, given_count, GivesFirst, GivesFront, GivesNext, GivesAll, GivesRun, HasGiven, next_data_set, in_hand};
+ghost use Rattle.block_adaptive.specs.Given.{ReaderState, given_count, GivesFirst, GivesFront, GivesNext, GivesAll, GivesRun, HasGiven, next_data_set, in_hand};
 ghost use Rattle.block_adaptive.specs.Reading.{data_sets_at};
 
+use crate::data_set_kind::DataSetKind;
 use crate::data_sets::read_data_set;
-use crate::found::Found;
 use crate::options::CodeSet;
 use crate::segments::{Position, blocks_left};
 use cube_core::fault::Fault;
@@ -19,7 +19,7 @@ use header_bits::bit_reader::BitReader;
 use header_bits::params::{Coder, Params};
 use std::marker::Model;
 
-/// Reads the numbers of a body, one coded data set at a time.
+/// Reads the residuals of a body, one coded data set at a time.
 ///
 /// It holds the values of the last data set, in an array or, for zero blocks, as a count.
 #[derive(Drop)]
@@ -43,10 +43,10 @@ pub struct BlockReader {
 
 impl Model for BlockReader {
     ghost use Rattle.std.specs.Prelude.{◌++◌, take, drop, replicate};
-    ghost use Rattle.block_adaptive.specs.Given.{Unpacked};
+    ghost use Rattle.block_adaptive.specs.Given.{ReaderState};
     ghost use Rattle.block_adaptive.specs.Holding.{AreParts};
 
-    ghost Value = { Unpacked };
+    ghost Value = { ReaderState };
 
     ghost view = { λ a. record {
       cut = record { set = a.set; size = a.size; reference = a.reference; count = a.count };
@@ -59,7 +59,7 @@ impl Model for BlockReader {
 }
 
 impl BlockReader {
-    /// Returns a reader of an image's numbers, none of which was read yet. It allocates nothing.
+    /// Returns a reader of an image's residuals, none of which was read yet. It allocates nothing.
     ///
     /// The parameters are lawful, and for this coder.
     #[tactic(auto, using(crate::proofs::Handed::nothing_held))]
@@ -93,10 +93,10 @@ impl BlockReader {
         }
     }
 
-    /// Returns the next number of the body.
+    /// Returns the next residual of the body.
     ///
-    /// Fewer numbers were returned than all blocks have. Where the reader holds no value, it first reads the
-    /// whole next data set. Where no lawful data set comes next, the refusal is that of its first unlawful
+    /// Fewer residuals were returned than all blocks have values. If the reader holds no value, it first reads the
+    /// whole next data set. If no lawful data set comes next, the refusal is that of its first unlawful
     /// part: `Truncated` with the number of bits of the whole input if they end inside it, `RunPastSegment` for a run code, and
     /// `BadOption` for any other; both name the block at which the data set begins. The reader then keeps its position, nothing
     /// else is changed, and every later call returns the same
@@ -104,7 +104,7 @@ impl BlockReader {
     #[inline]
     pub fn next(&mut self, reader: &mut BitReader) -> Result<u16, Fault>
         requires { given_count self.old < capacity self.old.cut }
-        ensures first { self.old.refused ≡ None → MatchResult result (λ value. (new : Unpacked) × (in_hand self.old reader.old self.old.held ≡ Ok (
+        ensures first { self.old.refused ≡ None → MatchResult result (λ value. (new : ReaderState) × (in_hand self.old reader.old self.old.held ≡ Ok (
           new,
           reader.new.left,
         )) × GivesFirst new value self.new) (λ fault. (self.old.held ≡ []) × (next_data_set self.old reader.old ≡ Err fault)) }
@@ -126,10 +126,10 @@ impl BlockReader {
         Ok(self.give())
     }
 
-    /// Writes the next numbers of the body to `numbers`: the same as so many calls of `next` return.
+    /// Writes the next residuals of the body to `numbers`: those that as many calls of `next` return.
     ///
-    /// With these, no more numbers are returned than all blocks have. Where no lawful data set comes next while
-    /// numbers are missing, the refusal is that of `next`; the bits then keep the position of that data set, what
+    /// With these, no more residuals are returned than all blocks have values. If no lawful data set comes next while
+    /// residuals are missing, the refusal is that of `next`; the bits then keep the position of that data set, what
     /// is in `numbers` is unspecified, and every later call returns the same refusal and changes nothing else. It allocates
     /// nothing.
     pub fn next_run(&mut self, reader: &mut BitReader, numbers: &mut [u16]) -> Result<(), Fault>
@@ -154,7 +154,7 @@ impl BlockReader {
         Ok(())
     }
 
-    /// Writes the next numbers of the body to the front of `numbers`, and returns how many: those of one data set
+    /// Writes the next residuals of the body to the front of `numbers`, and returns how many: those of one data set
     /// for which there is room.
     #[inline(always)]
     fn next_some(&mut self, reader: &mut BitReader, numbers: &mut [u16]) -> Result<usize, Fault>
@@ -180,7 +180,7 @@ impl BlockReader {
         Ok(self.give_run(numbers))
     }
 
-    /// Reads the next coded data set, and keeps its values.
+    /// Reads the next coded data set, and stores its values.
     #[inline(never)]
     fn take_data_set(&mut self, reader: &mut BitReader) -> Result<(), Fault>
         requires empty { self.old.held ≡ [] }
@@ -206,19 +206,19 @@ impl BlockReader {
             &position,
             &mut self.values[..self.size as usize],
         ) {
-            Ok(Found::Block(_)) => {
+            Ok(DataSetKind::Block(_)) => {
                 *reader = ahead;
                 self.at = 0;
                 self.zeros = 0;
                 self.block += 1;
                 Ok(())
             }
-            Ok(Found::Run(blocks)) => {
+            Ok(DataSetKind::Run(blocks)) => {
                 *reader = ahead;
                 self.hold_zeros(blocks);
                 Ok(())
             }
-            Ok(Found::RestOfSegment) => {
+            Ok(DataSetKind::RestOfSegment) => {
                 *reader = ahead;
                 self.hold_zeros(blocks_left(&position));
                 Ok(())
@@ -232,8 +232,8 @@ impl BlockReader {
         }
     }
 
-    /// Keeps so many blocks of zeros, at most as many as the segment has left.
-    #[tactic(auto, using(crate::proofs::Handed::rest_most, header_bits::proofs::Places::run_in_hand))]
+    /// Stores a run of zero blocks, at most as many as the segment has left.
+    #[tactic(auto, using(crate::proofs::Handed::rest_most, crate::proofs::Places::run_in_hand))]
     fn hold_zeros(&mut self, blocks: u32)
         requires { (0 < blocks) × (blocks ≤ left_at self.old.cut self.old.block) }
         ensures zeros { self.new ≡ record self.old { block = self.old.block + blocks; held = values_of (replicate blocks (replicate self.old.cut.size 0)) } }
@@ -246,7 +246,7 @@ impl BlockReader {
     }
 
     /// Returns the first value held.
-    #[tactic(auto, using(header_bits::proofs::Places::first_in_hand))]
+    #[tactic(auto, using(crate::proofs::Places::first_in_hand))]
     fn give(&mut self) -> u16
         requires { 0 < length self.old.held }
         ensures first { GivesFirst self.old result self.new }
@@ -265,7 +265,7 @@ impl BlockReader {
 
     /// Moves the first values held to the front of `numbers`, and returns how many: all of them, or as many as there is room for.
     #[inline(always)]
-    #[tactic(auto, using(std::proofs::lemmas::Grind::common_steps, header_bits::proofs::Places::first_of_hand, header_bits::proofs::Places::zeros_of_hand))]
+    #[tactic(auto, using(std::proofs::lemmas::Grind::common_steps, crate::proofs::Places::first_of_hand, crate::proofs::Places::zeros_of_hand))]
     fn give_run(&mut self, numbers: &mut [u16]) -> usize
         requires held { 0 < length self.old.held }
         requires room { 0 < length numbers.old }

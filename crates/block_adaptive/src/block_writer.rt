@@ -1,10 +1,10 @@
-//! A writer of blocks: it takes numbers one after another, and writes the coded data sets of their blocks.
+//! A writer of blocks: it takes residuals one after another, and writes the coded data sets of their blocks.
 
 ghost use Rattle.std.specs.Prelude.{ℕ, ◌∷◌, ◌-◌, ◌≡◌, ◌+◌, ◌%◌, ◌^◌, ◌<◌, ◌≤◌, ◌++◌, [], length, sum, take, replicate, OnOk, OnErr, IfErr};
 ghost use Rattle.std.specs.List.{AllByRecursion};
 ghost use Rattle.cube_core.specs.declared.fault.Fault.TheVariants.{WantOfMemory};
 ghost use Rattle.block_adaptive.specs.Settings.{AreForBlocks, IsCutOf, cut_by};
-ghost use Rattle.block_adaptive.specs.Taken.{HasTaken, PutsNumber, PutsAll, EndsBlock, EndsInside, EndsBody, taken_count, packed, ended, data_sets_packed};
+ghost use Rattle.block_adaptive.specs.Taken.{HasTaken, PutsResidual, PutsAll, EndsBlock, EndsInside, EndsBody, taken_count, packed, ended, data_sets_packed};
 ghost use Rattle.block_adaptive.specs.Taken.{GrowsByNeed};
 ghost use Rattle.block_adaptive.specs.DataSets.{capacity};
 ghost use Rattle.cube_core.specs.Shape.{sample_count};
@@ -17,7 +17,7 @@ use header_bits::bit_writer::BitWriter;
 use header_bits::params::{Coder, Params};
 use std::marker::Model;
 
-/// Writes the body of numbers, with the shortest option of each block and the longest runs of zero blocks.
+/// Writes the body of residuals, with the shortest option of each block and the longest runs of zero blocks.
 ///
 /// It holds the values of the block begun, and zero blocks, as a count, until the length of their run is known.
 #[derive(Drop)]
@@ -41,10 +41,10 @@ pub struct BlockWriter {
 
 impl Model for BlockWriter {
     ghost use Rattle.std.specs.Prelude.{take};
-    ghost use Rattle.block_adaptive.specs.Taken.{Packed};
+    ghost use Rattle.block_adaptive.specs.Taken.{WriterState};
     ghost use Rattle.block_adaptive.specs.Holding.{AreStored};
 
-    ghost Value = { Packed };
+    ghost Value = { WriterState };
 
     ghost view = { λ a. record {
       cut = record { set = a.set; size = a.size; reference = a.reference; count = a.count };
@@ -58,7 +58,7 @@ impl Model for BlockWriter {
 }
 
 impl BlockWriter {
-    /// Returns a writer of an image's numbers, none of which was taken yet. It allocates nothing.
+    /// Returns a writer of an image's residuals, none of which was taken yet. It allocates nothing.
     ///
     /// The parameters are lawful, and for this coder.
     pub fn new(params: &Params) -> BlockWriter
@@ -91,16 +91,16 @@ impl BlockWriter {
         }
     }
 
-    /// Takes the next number, and appends the part of the body that is then known.
+    /// Takes the next residual, and appends the part of the body that is then known.
     ///
-    /// Fewer numbers were taken than all blocks have, and the number is at most 2^D - 1. It allocates only
-    /// where the number ends a block, and no more than twice the bits written then. Returns `WantOfMemory` if the allocation fails,
+    /// Fewer residuals were taken than all blocks have values, and the residual is at most 2^D - 1. It allocates only
+    /// if the residual completes a block, and no more than twice the bits written then. Returns `WantOfMemory` if the allocation fails,
     /// or if there would be more than 2^63 bits; then nothing was changed, and the call may be repeated.
     #[inline]
     pub fn put(&mut self, delta: u16, writer: &mut BitWriter) -> Result<(), Fault>
         requires number { delta < 2 ^ self.old.cut.set.bits }
         requires more { taken_count self.old < capacity self.old.cut }
-        ensures taken { OnOk result (PutsNumber delta self.old writer.old.bits self.new writer.new.bits) }
+        ensures taken { OnOk result (PutsResidual delta self.old writer.old.bits self.new writer.new.bits) }
         ensures counted { OnOk result (taken_count self.new ≡ taken_count self.old + 1) }
         ensures same { OnErr result ((self.new ≡ self.old) × (writer.new.bits ≡ writer.old.bits)) }
         ensures grows { GrowsByNeed writer.old writer.new }
@@ -117,10 +117,10 @@ impl BlockWriter {
         self.put_last(delta, writer)
     }
 
-    /// Takes the next numbers, and appends the part of the body that is then known. Returns how many were taken: fewer than all
-    /// only where `put` would refuse the number after them, which ends a block. The call may then be repeated with those left.
+    /// Takes the next residuals, and appends the part of the body that is then known. Returns how many were taken: fewer than all
+    /// only if `put` would refuse the residual after them, which completes a block. The call may then be repeated with those left.
     ///
-    /// With these, no more numbers are taken than all blocks have, and each is at most 2^D - 1. It allocates as `put` does.
+    /// With these, no more residuals are taken than all blocks have values, and each is at most 2^D - 1. It allocates as `put` does.
     pub fn put_all(&mut self, numbers: &[u16], writer: &mut BitWriter) -> usize
         requires numbers { AllByRecursion (λ n. n < 2 ^ self.old.cut.set.bits) numbers.now }
         requires more { taken_count self.old + length numbers.now ≤ capacity self.old.cut }
@@ -134,7 +134,7 @@ impl BlockWriter {
         let size = self.size as usize;
         let mut first = 0;
         while first < numbers.len() {
-            // A block that is whole here is coded from here, without a copy.
+            // A block that is whole in `numbers` is coded from there, without a copy.
             if self.held == 0 && numbers.len() - first >= size {
                 let taken = self.put_block(&numbers[first..first + size], writer);
                 if taken < size {
@@ -157,7 +157,7 @@ impl BlockWriter {
         first
     }
 
-    /// Takes numbers that don't end the block begun.
+    /// Takes residuals that don't complete the block begun.
     #[inline(always)]
     fn hold(&mut self, numbers: &[u16])
         requires numbers { AllByRecursion (λ n. n < 2 ^ self.old.cut.set.bits) numbers.now }
@@ -171,8 +171,8 @@ impl BlockWriter {
         self.total += sum_of(numbers);
     }
 
-    /// Takes the numbers of a block where none is held, and appends the part of the body that is then known.
-    /// Returns how many were taken: all but the last where an allocation failed.
+    /// Takes the residuals of a whole block, while none is held, and appends the part of the body that is then known.
+    /// Returns how many were taken: all but the last if an allocation failed.
     fn put_block(&mut self, block: &[u16], writer: &mut BitWriter) -> usize
         requires none { self.old.held ≡ [] }
         requires whole { length block.now ≡ self.old.cut.size }
@@ -195,7 +195,7 @@ impl BlockWriter {
         }
     }
 
-    /// Takes the last number of a block, and appends the part of the body that is then known.
+    /// Takes the last residual of a block, and appends the part of the body that is then known.
     #[inline(never)]
     fn put_last(&mut self, delta: u16, writer: &mut BitWriter) -> Result<(), Fault>
         requires last { length self.old.held + 1 ≡ self.old.cut.size }
@@ -214,7 +214,7 @@ impl BlockWriter {
 
     /// Ends the body: appends all that is held, with the block begun filled with zeros.
     ///
-    /// All numbers were taken. It allocates only where they end inside a block, and no more than twice the bits written then. Returns
+    /// All residuals were taken. It allocates only if they end inside a block, and no more than twice the bits written then. Returns
     /// `WantOfMemory` if the allocation fails, or if there would be more than 2^63 bits; then nothing was changed, and the call may
     /// be repeated.
     pub fn end(&mut self, writer: &mut BitWriter) -> Result<(), Fault>
@@ -290,7 +290,7 @@ fn sum_of_eights(block: &[u16]) -> u32
 }
 
 /// Returns the first `held` values, followed by zeros.
-#[tactic(auto, using(std::proofs::lemmas::Grind::common_steps, header_bits::proofs::Places::filled_next))]
+#[tactic(auto, using(std::proofs::lemmas::Grind::common_steps, crate::proofs::Places::filled_next))]
 fn filled_block(values: &[u16; 64], held: u32) -> [u16; 64]
     requires { held ≤ 64 }
     ensures { (n : ℕ) → held ≤ n → n ≤ 64 → take n result ≡ take held values.now ++ replicate (n - held) 0 }

@@ -8,11 +8,11 @@ ghost use Rattle.block_adaptive.specs.Options.{width, greatest_value};
 ghost use Rattle.block_adaptive.specs.Reading.{site_of, fundamental_at, quotients_at, split_at, words_at, run_at, data_set_at};
 ghost use Rattle.block_adaptive.specs.DataSets.{CodedDataSet, spelled, IsCodedDataSet};
 ghost use Rattle.block_adaptive.specs.Positions.{IsPosition, blocks_from};
-ghost use Rattle.block_adaptive.specs.Told.{told};
+ghost use Rattle.block_adaptive.specs.DataSetKinds.{with_values};
 
 use crate::ahead::{Ahead, code_ahead, look_ahead, take_used};
 use crate::choice::identifier_width;
-use crate::found::Found;
+use crate::data_set_kind::DataSetKind;
 use crate::lows::{lows, lows_within};
 use crate::options::{Choice, CodeSet};
 use crate::pairs::pairs;
@@ -53,9 +53,9 @@ fn quotients(reader: &mut BitReader, block: u64, most: u16, values: &mut [u16]) 
     checked_codes(reader, block, most, values)
 }
 
-/// Reads a fundamental sequence for each value, and returns a number that none is above.
+/// Reads a fundamental sequence for each value, and returns an upper bound of the numbers read.
 ///
-/// One test of that number for the block takes the place of one for each value.
+/// One test of that bound for the block replaces one for each value.
 #[inline(always)]
 fn codes(reader: &mut BitReader, block: u64, values: &mut [u16]) -> Result<u16, Fault>
     ensures read { IfOk result (λ bound. AllByRecursion (λ q. q ≤ bound) values.new
@@ -142,9 +142,9 @@ fn split(
 
 /// Reads a run code, and returns its run of zero blocks.
 #[tactic(auto, unfolding(crate::specs::Reading::run_at))]
-fn run(reader: &mut BitReader, block: u64, left: u32) -> Result<Found, Fault>
+fn run(reader: &mut BitReader, block: u64, left: u32) -> Result<DataSetKind, Fault>
     requires { left ≤ 64 }
-    ensures found { IfOk result (λ found. (vs : List ℕ) → run_at (site_of reader.old block) left reader.old.left ≡ Ok (told vs found, reader.new.left)) }
+    ensures found { IfOk result (λ found. (vs : List ℕ) → run_at (site_of reader.old block) left reader.old.left ≡ Ok (with_values vs found, reader.new.left)) }
     ensures fault { IfErr result (λ fault. run_at (site_of reader.old block) left reader.old.left ≡ Err fault) }
     ensures count { reader.new.count ≡ reader.old.count }
 {
@@ -154,13 +154,13 @@ fn run(reader: &mut BitReader, block: u64, left: u32) -> Result<Found, Fault>
         return Err(Fault::RunPastSegment { block });
     }
     if zeros == 4 {
-        return Ok(Found::RestOfSegment);
+        return Ok(DataSetKind::RestOfSegment);
     }
     let named = if zeros <= 3 { zeros + 1 } else { zeros };
     if named > u64::from(left) {
         return Err(Fault::RunPastSegment { block });
     }
-    Ok(Found::Run(named as u32))
+    Ok(DataSetKind::Run(named as u32))
 }
 
 /// Returns the greatest value, 2^D - 1.
@@ -191,11 +191,11 @@ pub(crate) fn data_set(
     set: &CodeSet,
     position: &Position,
     values: &mut [u16],
-) -> Result<Found, Fault>
+) -> Result<DataSetKind, Fault>
     requires bits { set.now.bits ≤ 16 }
     requires position { IsPosition position.now }
     requires fours { length values.old % 4 ≡ 0 }
-    ensures read { Reads (told values.new) result reader.new.left (data_set_at (site_of reader.old block) set.now (length values.old)
+    ensures read { Reads (with_values values.new) result reader.new.left (data_set_at (site_of reader.old block) set.now (length values.old)
         (blocks_from position.now) reader.old.left) }
     ensures count { reader.new.count ≡ reader.old.count }
 {
@@ -209,14 +209,14 @@ pub(crate) fn data_set(
             return Ok(found);
         }
         pairs(reader, block, most, values)?;
-        Ok(Found::Block(Choice::Second))
+        Ok(DataSetKind::Block(Choice::Second))
     } else if number == (1u64 << width) - 1 {
         words(reader, set.bits, values)?;
-        Ok(Found::Block(Choice::Uncoded))
+        Ok(DataSetKind::Block(Choice::Uncoded))
     } else {
         let k = number as u32 - 1;
         split(reader, block, k, most, values)?;
-        Ok(Found::Block(Choice::Split(k)))
+        Ok(DataSetKind::Block(Choice::Split(k)))
     }
 }
 
@@ -231,14 +231,14 @@ pub(crate) fn read_data_set(
     set: &CodeSet,
     position: &Position,
     values: &mut [u16],
-) -> Result<Found, Fault>
+) -> Result<DataSetKind, Fault>
     requires bits { set.now.bits ≤ 16 }
     requires position { IsPosition position.now }
     requires fours { length values.old % 4 ≡ 0 }
-    ensures read { Reads (told values.new) result reader.new.left (data_set_at (site_of reader.old block) set.now (length values.old)
+    ensures read { Reads (with_values values.new) result reader.new.left (data_set_at (site_of reader.old block) set.now (length values.old)
         (blocks_from position.now) reader.old.left) }
-    ensures found { IfOk result (λ found. (reader.old.left ≡ spelled set.now (told values.new found) ++ reader.new.left)
-        × IsCodedDataSet set.now (length values.old) (blocks_from position.now) (told values.new found)) }
+    ensures found { IfOk result (λ found. (reader.old.left ≡ spelled set.now (with_values values.new found) ++ reader.new.left)
+        × IsCodedDataSet set.now (length values.old) (blocks_from position.now) (with_values values.new found)) }
     ensures none { IfErr result (λ _. (t : CodedDataSet) (rest : List Bool) → IsCodedDataSet set.now (length values.old) (blocks_from position.now) t
         → reader.old.left ≡ spelled set.now t ++ rest → ⊥) }
     ensures count { reader.new.count ≡ reader.old.count }

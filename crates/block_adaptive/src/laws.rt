@@ -27,24 +27,24 @@ pub fn data_set_is_taken()
     ensures { DataSetIsTaken }
 {}
 
-/// No body of one list of numbers is a prefix of a body of another list of the same length.
+/// No body of residuals is a prefix of a body of as many other residuals.
 pub fn one_body()
     ensures { OneBody }
 {}
 
-/// The chosen body of numbers is a body of them.
+/// The chosen body of residuals is a body of them.
 #[tactic(auto, using(crate::proofs::Bodies::chosen_is_body))]
 pub fn chosen_is_body()
     ensures { ChosenIsBody }
 {}
 
-/// What a writer has appended is a prefix of the chosen body, whatever numbers are still to come.
+/// What a writer has appended is a prefix of the chosen body, whatever residuals follow.
 #[tactic(auto, using(crate::proofs::Calls::taken_is_prefix))]
 pub fn taken_is_prefix()
     ensures { TakenIsPrefix }
 {}
 
-/// The data sets of a body are read exactly where the bits have lawful data sets for all blocks.
+/// The data sets of a body are read exactly if the bits begin with lawful data sets for all blocks.
 pub fn body_is_read()
     ensures { BodyIsRead }
 {}
@@ -55,7 +55,7 @@ pub fn pair_bound()
     ensures { PairBound }
 {}
 
-/// The blocks of numbers are cut into as many segments as are counted, which together are all blocks.
+/// `segment_count` is the number of segments of the blocks of residuals, and the segments have all blocks.
 pub fn segments_are_counted()
     ensures { SegmentsAreCounted }
 {}

@@ -28,7 +28,7 @@ pub(crate) fn lows(
     Ok(())
 }
 
-/// Reads the low bits that come next, and returns the value made of a quotient and them.
+/// Reads the low bits of a quotient, which come next, and returns the value.
 #[inline(always)]
 #[tactic(auto, unfolding(crate::specs::Reading::low_at))]
 fn whole(reader: &mut BitReader, block: u64, k: u32, most: u16, quotient: u16) -> Result<u16, Fault>
@@ -96,7 +96,7 @@ fn four_lows(
 
 /// Joins four quotients with their low bits, which are the highest bits of a word.
 #[inline(always)]
-#[tactic(auto, using(header_bits::proofs::Powers::four_shifts))]
+#[tactic(auto, using(crate::proofs::Powers::four_shifts))]
 fn join_lows(word: u64, k: u32, four: &mut [u16])
     requires depth { k ≤ 14 }
     requires four { length four.old ≡ 4 }

@@ -1,4 +1,4 @@
-//! The segments in which runs of zero blocks stay (CCSDS 121.0-B, "Zero-block option").
+//! Segments, in one of which each run of zero blocks stays (CCSDS 121.0-B, "Zero-block option").
 
 ghost use Rattle.std.specs.Prelude.{◌≡◌, ◌^◌, ◌≤◌};
 ghost use Rattle.cube_core.specs.Shape.{InRange};

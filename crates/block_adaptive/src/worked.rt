@@ -1,15 +1,15 @@
 //! Worked examples of the coder's bodies, as laws on its definitions. Blocks have eight values.
 //!
 //! A body is given as bytes, with the zero bits that fill the last one.
-#![tactic(auto, unfolding(crate::specs::Everything::everything))]
+#![tactic(auto, unfolding(crate::specs::Unfold::everything))]
 
 ghost use Rattle.std.specs.Prelude.{◌≡◌, ◌∷◌, [], Some};
 ghost use Rattle.header_bits.specs.Bits.{bits_of_bytes};
 ghost use Rattle.block_adaptive.specs.declared.options.Choice.TheVariants.{Uncoded, Second, Split};
 ghost use Rattle.block_adaptive.specs.Options.{cost};
 ghost use Rattle.block_adaptive.specs.Chosen.{chosen_block_body};
-ghost use Rattle.header_bits.specs.Rows.{filled_up, zeros};
-ghost use Rattle.block_adaptive.specs.Rows.{plain, restricted, numbers_read};
+ghost use Rattle.header_bits.specs.Examples.{filled_up, zeros};
+ghost use Rattle.block_adaptive.specs.Examples.{plain, restricted, numbers_read};
 
 /// One number, and a block that zeros fill: k = 4.
 pub fn filled_block()

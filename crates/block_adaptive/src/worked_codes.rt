@@ -1,12 +1,12 @@
 //! The identifiers of all options, and the run codes, as laws on the definitions.
-#![tactic(auto, unfolding(crate::specs::Everything::everything))]
+#![tactic(auto, unfolding(crate::specs::Unfold::everything))]
 
 ghost use Rattle.std.specs.Prelude.{◌≡◌, ◌∷◌, [], false, true};
 ghost use Rattle.block_adaptive.specs.declared.options.Choice.TheVariants.{Uncoded, Second, Split};
 ghost use Rattle.block_adaptive.specs.Options.{identifier, zero_identifier, splits};
 ghost use Rattle.block_adaptive.specs.DataSets.{run_code, rest_code};
 ghost use Rattle.block_adaptive.specs.Segments.{segment_count};
-ghost use Rattle.block_adaptive.specs.Rows.{plain, restricted};
+ghost use Rattle.block_adaptive.specs.Examples.{plain, restricted};
 
 /// Up to eight bits.
 pub fn identifiers_of_eight_bits()

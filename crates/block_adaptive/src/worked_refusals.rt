@@ -1,12 +1,12 @@
 //! Worked examples of what a reader refuses, as laws on the definitions. Blocks have eight values.
-#![tactic(auto, unfolding(crate::specs::Everything::everything))]
+#![tactic(auto, unfolding(crate::specs::Unfold::everything))]
 
 ghost use Rattle.std.specs.Prelude.{◌≡◌, ◌∷◌, [], Some, take};
 ghost use Rattle.cube_core.specs.declared.fault.Fault.TheVariants.{BadOption, RunPastSegment, Truncated};
 ghost use Rattle.header_bits.specs.Bits.{bits_of_bytes};
 ghost use Rattle.block_adaptive.specs.Reading.{block_body_fault};
-ghost use Rattle.block_adaptive.specs.Rows.{plain};
-ghost use Rattle.header_bits.specs.Rows.{zeros};
+ghost use Rattle.block_adaptive.specs.Examples.{plain};
+ghost use Rattle.header_bits.specs.Examples.{zeros};
 
 /// A run of two blocks where one is left.
 pub fn run_past_one_block()

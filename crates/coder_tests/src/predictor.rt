@@ -2,7 +2,7 @@
 
 ghost use Rattle.std.specs.Prelude.{◌≡◌, ◌<◌, ◌^◌};
 ghost use Rattle.cube_core.specs.Order.{IsOrder};
-ghost use Rattle.cube_core.specs.Rows.{sizes, unsigned};
+ghost use Rattle.cube_core.specs.Examples.{sizes, unsigned};
 ghost use Rattle.header_bits.specs.Lawful.{IsLawful};
 
 use crate::row_words::numbers_of;

@@ -1,3 +1,3 @@
-pub mod Everything
+pub mod Unfold
 pub mod Lines
 pub mod Status

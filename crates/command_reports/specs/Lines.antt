@@ -1,4 +1,4 @@
--- What is told of a header: a line for each of its fields.
+-- The lines that are printed of a header, one for each field.
 use Rattle.std.specs.Prelude.{ℕ, ◌^◌, List, [], ◌∷◌, ◌++◌, Bool, if◌then◌else◌, codes, decimal}
 use Rattle.std.specs.Fmt.{signed_decimal}
 use Rattle.cube_core.specs.declared.order.Order.{Order}
@@ -15,11 +15,11 @@ use Rattle.header_bits.specs.declared.params.CountStart.TheVariants.{Constant, E
 unfoldable pub line : List ℕ → List ℕ → List ℕ
 line name value = name ++ 32 ∷ value ++ 10 ∷ []
 
--- one text where it holds, and else another
+-- one text if `holds`, else another
 abbrev pub choice : Bool → List ℕ → List ℕ → List ℕ
 choice holds one other = if holds then one else other
 
--- an interleaved order is told with its depth
+-- an order's name, with the depth of an interleaved one
 abbrev pub order_text : Order → List ℕ
 order_text Bsq = codes "bsq"
 order_text (Bi depth) = codes "bi " ++ decimal depth
@@ -28,7 +28,7 @@ abbrev pub coder_text : Coder → List ℕ
 coder_text (Sample umax gamma_star gamma_zero start) = codes "sample"
 coder_text (Block size restricted reference) = codes "block"
 
--- a table of weights is told with its resolution
+-- the weight initialization, with the resolution Q of a table
 abbrev pub start_text : WeightStart → List ℕ
 start_text Usual = codes "usual"
 start_text (Table q values) = codes "table " ++ decimal q
@@ -78,7 +78,7 @@ coder_lines (Block size restricted reference) =
     ++ line (codes "restricted") (choice restricted (codes "yes") (codes "no"))
     ++ line (codes "reference") (decimal reference)
 
--- the lines of a header with these parameters and so many bytes: image, predictor, coder, length
+-- the lines of a header of `size` bytes with these parameters: image, predictor, coder, size
 unfoldable pub header_lines : Params → ℕ → List ℕ
 header_lines p size =
     size_lines p

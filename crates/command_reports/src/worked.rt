@@ -5,7 +5,7 @@ ghost use Rattle.std.specs.Prelude.{◌≡◌, ◌∷◌, [], false, codes};
 ghost use Rattle.cube_core.specs.declared.order.Order.TheVariants.{Bi};
 ghost use Rattle.header_bits.specs.declared.params.CountStart.TheVariants.{Each};
 ghost use Rattle.header_bits.specs.declared.params.Coder.TheVariants.{Sample};
-ghost use Rattle.header_bits.specs.Rows.{common, cube_a, block, with_weights};
+ghost use Rattle.header_bits.specs.Examples.{common, cube_a, block, with_weights};
 ghost use Rattle.command_reports.specs.Lines.{header_lines, coder_lines, start_text};
 
 /// The header of two samples, one below the other.

@@ -1,29 +1,29 @@
--- The options of the commands, each with its value where it is left out.
+-- The options of the commands, each with its default.
 use Rattle.std.specs.Prelude.{List, [], ◌∷◌, ◌++◌, map, Some, true, codes, fold}
 use Rattle.clap.specs.Walk.{Rule, Text}
 use Rattle.clap.specs.Simple.{App, new_app, new_rule, with_rule}
 use Rattle.clap.specs.declared.builder.action.ArgAction.TheVariants.{Set, SetTrue}
 
--- an option with a value, which may not be left out
+-- a required option with a value
 abbrev pub required : Text → Rule
 required name = record (new_rule name) { long = Some name; action = Some Set; required = true }
 
--- an option with a value, which is this where it is left out
+-- an option with a value, and its default
 abbrev pub option : Text × Text → Rule
 option o = record (new_rule o.0) { long = Some o.0; action = Some Set; defaults = o.1 ∷ [] }
 
 abbrev pub flag : Text → Rule
 flag name = record (new_rule name) { long = Some name; action = Some SetTrue }
 
--- a word of its own, by its place
+-- a positional word: the name of a file
 abbrev pub file : Text → Rule
 file name = record (new_rule name) { action = Some Set; required = true }
 
--- what says how large an image is, and what its samples are
+-- the options of an image's sizes and samples
 unfoldable pub sizes : List Text
 sizes = codes "columns" ∷ codes "rows" ∷ codes "bands" ∷ codes "bits" ∷ []
 
--- the encoding order and what goes into the header's first part, how samples are predicted, how residuals are coded, and by how many threads
+-- the options with defaults: those of the encoding order and the rest of the image part, of the predictor, of the coders, and of threads
 unfoldable pub options : List (Text × Text)
 options =
     (codes "order", codes "bsq") ∷ (codes "depth", codes "1") ∷ (codes "user", codes "0") ∷ (codes "word", codes "1")
@@ -36,15 +36,15 @@ options =
 unfoldable pub flags : List Text
 flags = codes "signed" ∷ codes "reduced" ∷ codes "column-sums" ∷ codes "restricted" ∷ []
 
--- the image, and how it is predicted and coded
+-- the options of the image, the predictor and the coders
 unfoldable pub image_rules : List Rule
 image_rules = map required sizes ++ map option options ++ map flag flags
 
--- how raw bytes lie, and the two files
+-- the options of the raw layout, and the two files
 unfoldable pub layout_rules : List Rule
 layout_rules = option (codes "layout", codes "bsq") ∷ option (codes "bytes", codes "2") ∷ flag (codes "little") ∷ file (codes "IN") ∷ file (codes "OUT") ∷ []
 
--- a command that also has these options and files
+-- a command with these options and files
 abbrev pub with_rules : App → List Rule → App
 with_rules = fold with_rule
 

@@ -1,4 +1,4 @@
--- What a command's options ask for, as they were found in its words.
+-- The values of a command's options, as they were found in its words.
 use Rattle.std.specs.Prelude.{◌≡◌, ℕ, ℤ, pos, ◌-ℤ◌, ◌⊎◌, List, Bool, true, false, Some, None, codes, string_bytes, String}
 use Rattle.std.specs.Str.Parse.{IsNumeral, digits_value, without_leading_plus}
 use Rattle.std.specs.declared.alloc.Global.{Global}
@@ -18,7 +18,7 @@ use Rattle.header_bits.specs.declared.params.Coder.TheVariants as coder
 use Rattle.header_bits.specs.declared.params.CountStart.TheVariants.{Constant}
 use Rattle.command_words.specs.Settings.{IsCoderInRange}
 
--- what was found of each option
+-- the words that were found for each option
 abbrev pub rows : ArgMatches → List Row
 rows m = rows_of (found_of m)
 
@@ -26,11 +26,11 @@ rows m = rows_of (found_of m)
 abbrev pub HasWord : List Row → Text → Text → Type 0
 HasWord rows name word = first_of name rows ≡ Some word
 
--- the option's word is a number in decimal digits, before which a plus may stand
+-- the option's word is a number in decimal digits, after an optional plus sign
 abbrev pub HasNumber : List Row → Text → ℕ → Type 0
 HasNumber rows name n = (t : Text) × (one_of name rows ≡ Some t) × IsNumeral 10 (without_leading_plus t) × (digits_value 10 (without_leading_plus t) ≡ n)
 
--- the flag was given, or not
+-- whether the flag was given
 abbrev pub HasFlag : List Row → Text → Bool → Type 0
 HasFlag rows name b =
     (one_of name rows ≡ Some (codes "true") → b ≡ true) × (one_of name rows ≡ Some (codes "false") → b ≡ false) × (one_of name rows ≡ None → b ≡ false)
@@ -40,7 +40,7 @@ raw_order_word raw.Bsq = codes "bsq"
 raw_order_word raw.Bil = codes "bil"
 raw_order_word raw.Bip = codes "bip"
 
--- how raw bytes lie
+-- the raw layout
 pub record IsLayoutOf (rows : List Row) (l : Layout) : Type 0 where
   pub order : HasWord rows (codes "layout") (raw_order_word l.order)
   pub bytes : HasNumber rows (codes "bytes") l.bytes
@@ -50,23 +50,23 @@ pub record IsLayoutOf (rows : List Row) (l : Layout) : Type 0 where
 abbrev pub AreFilesOf : List Row → String Global → String Global → Type 0
 AreFilesOf rows from to = HasWord rows (codes "IN") (string_bytes from) × HasWord rows (codes "OUT") (string_bytes to)
 
--- how large an image is
+-- the sizes of an image
 pub record AreSizesOf (found : List Row) (s : Sizes) : Type 0 where
   pub columns : HasNumber found (codes "columns") s.columns
   pub rows : HasNumber found (codes "rows") s.rows
   pub bands : HasNumber found (codes "bands") s.bands
 
--- what its samples are
+-- the kind of its samples
 pub record IsKindOf (rows : List Row) (k : SampleKind) : Type 0 where
   pub signed : HasFlag rows (codes "signed") k.signed
   pub bits : HasNumber rows (codes "bits") k.bits
 
--- a lawful depth is asked for in either order, and it is the order's where bands are interleaved
+-- the encoding order; a depth in its range is given in either order, and is that of the interleaved one
 abbrev pub IsOrderOf : List Row → Order → Type 0
 IsOrderOf rows Bsq = HasWord rows (codes "order") (codes "bsq") × (depth : ℕ) × HasNumber rows (codes "depth") depth × InRange 1 65536 depth
 IsOrderOf rows (Bi depth) = HasWord rows (codes "order") (codes "bi") × HasNumber rows (codes "depth") depth
 
--- the exponent is the number less 6
+-- the option's number is an exponent plus 6
 abbrev pub HasExponent : List Row → Text → ℤ → Type 0
 HasExponent rows name v = (code : ℕ) × HasNumber rows name code × (v ≡ pos code -ℤ pos 6)
 
@@ -77,19 +77,19 @@ IsSampleOf rows (coder.Sample umax gamma_star gamma_zero start) =
     × (k : ℕ) × HasNumber rows (codes "k") k × (start ≡ Constant k)
 IsSampleOf rows (coder.Block size restricted reference) = ⊥
 
--- those of the block-adaptive coder
+-- the options of the block-adaptive coder
 abbrev pub IsBlockOf : List Row → Coder → Type 0
 IsBlockOf rows (coder.Sample umax gamma_star gamma_zero start) = ⊥
 IsBlockOf rows (coder.Block size restricted reference) =
     HasNumber rows (codes "block") size × HasFlag rows (codes "restricted") restricted × HasNumber rows (codes "reference") reference
 
--- the options of both coders are lawful, and the coder that is named has its own
+-- the options of both coders are in their ranges, and the named coder has its own
 pub record IsCoderOf (rows : List Row) (c : Coder) : Type 0 where
   pub sample : (s : Coder) × IsSampleOf rows s × IsCoderInRange s
   pub block : (b : Coder) × IsBlockOf rows b × IsCoderInRange b
   pub named : (HasWord rows (codes "coder") (codes "sample") × IsSampleOf rows c) ⊎ (HasWord rows (codes "coder") (codes "block") × IsBlockOf rows c)
 
--- each parameter is what its option says
+-- each parameter has the value of its option
 pub record AreParamsOf (rows : List Row) (p : Params) : Type 0 where
   pub shape : AreSizesOf rows p.shape
   pub kind : IsKindOf rows p.kind

@@ -1,4 +1,4 @@
--- The ranges of what a command line asks for.
+-- The ranges of the settings of a command line.
 use Rattle.std.specs.Prelude.{◌≡◌, ◌≢◌, ℕ, ◌≤◌, string_bytes}
 use Rattle.cube_core.specs.declared.order.Order.{Order}
 use Rattle.cube_core.specs.declared.order.Order.TheVariants.{Bsq, Bi}
@@ -19,13 +19,13 @@ abbrev pub IsDepth : Order → Type 0
 IsDepth Bsq = Unit {0}
 IsDepth (Bi depth) = InRange 1 65536 depth
 
--- each of a coder's parameters is in its own range; no table is told
+-- each of a coder's parameters is in its own range, and there is no accumulator table
 abbrev pub IsCoderInRange : Coder → Type 0
 IsCoderInRange (coder.Sample umax gamma_star gamma_zero start) =
     InRange 8 32 umax × InRange 4 9 gamma_star × InRange 1 8 gamma_zero × (k : ℕ) × (start ≡ Constant k) × (k ≤ 14)
 IsCoderInRange (coder.Block size restricted reference) = IsBlockSize size × InRange 1 4096 reference
 
--- each parameter is in its own range
+-- each parameter is in its own range, and there is no weight table
 pub record AreParams (p : Params) : Type 0 where
   pub sizes : AreSizes p.shape
   pub kind : IsKind p.kind
@@ -41,7 +41,7 @@ pub record AreParams (p : Params) : Type 0 where
   pub start : p.start ≡ Usual
   pub coder : IsCoderInRange p.coder
 
--- each value is in its range, and the two files have different names
+-- each setting is in its range, and the two files have different names
 abbrev pub AreInRange : Settings → Type 0
 AreInRange command.Show = Unit {0}
 AreInRange (command.Compress s from to) =

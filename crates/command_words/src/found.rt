@@ -9,7 +9,7 @@ ghost use Rattle.command_words.specs.Reading.{HasExponent, HasFlag, HasNumber, r
 
 use clap::ArgMatches;
 use cube_core::fault::Fault;
-use header_bits::field::{NumberField, Range};
+use header_bits::field::{NumberField, ValueRange};
 use header_bits::fields::LEAST_EXPONENT;
 
 /// Returns the number of an option that is named after its field.
@@ -23,7 +23,11 @@ pub(crate) fn number(matches: &ArgMatches<'_>, field: NumberField) -> Result<u32
 }
 
 /// Returns an option's number, in its range.
-pub(crate) fn number_in(matches: &ArgMatches<'_>, name: &str, range: Range) -> Result<u32, Fault>
+pub(crate) fn number_in(
+    matches: &ArgMatches<'_>,
+    name: &str,
+    range: ValueRange,
+) -> Result<u32, Fault>
     ensures range { IfOk result (InRange range.least range.most) }
     ensures read { IfOk result (HasNumber (rows matches.now) name.now) }
     ensures refused { IfErr result (λ e. (e ≡ Usage) × ((n : ℕ) → HasNumber (rows matches.now) name.now n → ¬ (InRange range.least range.most n))) }
@@ -44,7 +48,11 @@ fn between(matches: &ArgMatches<'_>, name: &str, least: u32, most: u32) -> Resul
 }
 
 /// Returns a weight update scaling exponent, which is given as its code, the exponent plus 6.
-pub(crate) fn exponent(matches: &ArgMatches<'_>, name: &str, codes: Range) -> Result<i32, Fault>
+pub(crate) fn exponent(
+    matches: &ArgMatches<'_>,
+    name: &str,
+    codes: ValueRange,
+) -> Result<i32, Fault>
     requires { (codes.least ≡ 0) × (codes.most ≡ 15) }
     ensures range { IfOk result IsExponent }
     ensures read { IfOk result (HasExponent (rows matches.now) name.now) }

@@ -8,23 +8,23 @@ ghost use Rattle.clap.specs.Walk.{rule_of};
 ghost use Rattle.command_words.specs.Options as defined;
 
 use clap::{Arg, ArgAction, Command};
-use header_bits::field::Range;
+use header_bits::field::ValueRange;
 use header_bits::fields;
 use std::alloc::{AllocError, Global};
 
 /// How many predictors may be asked for; 0 is coding on one thread.
-pub(crate) const PREDICTORS: Range = Range { least: 0, most: 64 };
+pub(crate) const PREDICTORS: ValueRange = ValueRange { least: 0, most: 64 };
 
 /// How many slots a lane may have.
-pub(crate) const SLOTS: Range = Range {
+pub(crate) const SLOTS: ValueRange = ValueRange {
     least: 1,
     most: 65_536,
 };
 
 /// How many bytes a raw sample may have.
-pub(crate) const BYTES: Range = Range { least: 1, most: 2 };
+pub(crate) const BYTES: ValueRange = ValueRange { least: 1, most: 2 };
 
-/// What says how large an image is, and what its samples are.
+/// The options of an image's sizes and samples.
 macro_rules! sizes {
     () => {
         [
@@ -40,8 +40,8 @@ macro_rules! sizes {
     };
 }
 
-/// The options of `compress`, each with its value where it is left out: the encoding order and what goes
-/// into the header's first part, how samples are predicted, how residuals are coded, and by how many threads.
+/// The options of `compress` with their defaults: those of the encoding order and the rest of the image part, of the predictor,
+/// of the coders, and of threads.
 macro_rules! options {
     () => {
         [
@@ -118,7 +118,7 @@ pub(crate) fn expand_command<'a>(alloc: Global) -> Result<Command<'a>, AllocErro
     layout_options(alloc, Command::new(alloc, "expand"))
 }
 
-/// The image, and how it is predicted and coded.
+/// The options of the image, the predictor and the coders.
 fn image_options<'a>(alloc: Global, command: Command<'a>) -> Result<Command<'a>, AllocError>
     ensures { IfOk result (λ c. app_of c ≡ defined.with_rules (app_of command.entry) defined.image_rules) }
 {
@@ -135,7 +135,7 @@ fn image_options<'a>(alloc: Global, command: Command<'a>) -> Result<Command<'a>,
     Ok(command)
 }
 
-/// How raw bytes lie, and the two files.
+/// The options of the raw layout, and the two files.
 fn layout_options<'a>(alloc: Global, command: Command<'a>) -> Result<Command<'a>, AllocError>
     ensures { IfOk result (λ c. app_of c ≡ defined.with_rules (app_of command.entry) defined.layout_rules) }
 {
@@ -150,7 +150,7 @@ fn layout_options<'a>(alloc: Global, command: Command<'a>) -> Result<Command<'a>
         .arg(file(alloc, "OUT"))
 }
 
-/// An option with a value, which may not be left out.
+/// A required option with a value.
 fn required<'a>(alloc: Global, name: &'a str) -> Arg<'a>
     ensures { rule_of result ≡ defined.required name.entry.now }
 {
@@ -160,7 +160,7 @@ fn required<'a>(alloc: Global, name: &'a str) -> Arg<'a>
         .required(true)
 }
 
-/// An option with a value, which is this one where it is left out.
+/// An option with a value, and its default.
 fn option<'a>(alloc: Global, name: &'a str, default: &'a str) -> Arg<'a>
     ensures { rule_of result ≡ defined.option (name.entry.now, default.entry.now) }
 {

@@ -3,7 +3,7 @@ use Rattle.std.proofs.Common.{◌≡◌, ◌+◌, ◌*◌, ◌<◌, ◌≤◌, �
 use Rattle.std.proofs.lemmas.Bool.{leb-true, leb-false}
 use Rattle.cube_core.proofs.Words.{Layout, Sizes, sample_count, SampleKind, IsSample, samples_of, IsLayout, order_of, twos_complement, raw_value, bytes_at}
 use Rattle.cube_core.proofs.Words.{HasBytes, HaveBytes, AreOffsetsOf, ints}
-use Rattle.cube_core.proofs.Poured.{sample_there}
+use Rattle.cube_core.proofs.Written.{sample_there}
 use Rattle.cube_core.proofs.RawBytes.{AreBytes, bytes_at_small, sample_spelled}
 use Rattle.cube_core.proofs.Raws.{place_of, lawful_order}
 

@@ -9,7 +9,7 @@ pub mod Lists
 pub mod Orders
 pub mod RawBytes
 pub mod Pieces
-pub mod Poured
+pub mod Written
 pub mod Putting
 pub mod Raws
 pub mod Scales

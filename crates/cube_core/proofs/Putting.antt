@@ -1,4 +1,4 @@
--- Numbers put down among bytes, and the pieces of a row that are poured there.
+-- Numbers put down among bytes, and the pieces of a row that are written there.
 use Rattle.std.proofs.Common.{◌≡◌, ◌≢◌, ◌⊎◌, ◌+◌, ◌*◌, ◌-◌, ◌<◌, ◌≤◌, ℕ, suc, List, [], ◌∷◌, length, take, drop, drop-cons, length-take, get_or}
 use Rattle.std.proofs.Common.{set, refl, sym, ap, ◌∙◌, subst, arith, inl, inr}
 use borrow.Rule.Slice.PartMut.{put_mid}
@@ -8,7 +8,7 @@ use Rattle.std.proofs.Math.Seq.{drop-append_seam}
 use Rattle.std.proofs.lemmas.Bool.{cases_eq, cases_lt}
 use Rattle.std.proofs.lemmas.Nat.{mul-le}
 use Rattle.cube_core.proofs.Words.{Bsq, Place, Layout, Sizes, sample_count, SampleKind, sample_of, index_in, IsOrder, IsPlaceOf, place_index, HasBytes}
-use Rattle.cube_core.proofs.Words.{order_of, bytes_at, LieEvenly, IsPoured, ArePoured, CanBePoured, SpellOffset}
+use Rattle.cube_core.proofs.Words.{order_of, bytes_at, LieEvenly, IsWritten, AreWritten, CanBeWritten, SpellOffset}
 use Rattle.cube_core.specs.declared.layout.RawOrder.TheVariants as raw
 use Rattle.cube_core.proofs.Bounds.{index_below}
 use Rattle.cube_core.proofs.Raws.{same_place, place_of}
@@ -114,16 +114,16 @@ in_or_out p z y x count =
     ]
 
 -- the bytes of a sample of the piece are there, and elsewhere bytes stay
-pub poured_there : (s : Sizes) (k : SampleKind) (l : Layout) (offsets old new : List ℕ) (z y x at count first step : ℕ) (p : Place)
+pub written_there : (s : Sizes) (k : SampleKind) (l : Layout) (offsets old new : List ℕ) (z y x at count first step : ℕ) (p : Place)
     → IsOrder s (order_of l.order s) → IsGiven s k l offsets old new z y x at count first step → IsPlaceOf s p
-    → IsPoured s k l offsets old p ⊎ IsIn p z y x count → IsPoured s k l offsets new p
-poured_there s k l offsets old new z y x at count first step p lawful h place known =
+    → IsWritten s k l offsets old p ⊎ IsIn p z y x count → IsWritten s k l offsets new p
+written_there s k l offsets old new z y x at count first step p lawful h place known =
     elim (in_or_out p z y x count) [
       | inl inside ↦ fresh inside
       | inr out ↦ kept out known
     ]
   where
-    fresh : IsIn p z y x count → IsPoured s k l offsets new p
+    fresh : IsIn p z y x count → IsWritten s k l offsets new p
     fresh inside =
         let lt : p.x - x < count = omega (arith, inside.low, inside.high) in
         let column : x + (p.x - x) ≡ p.x = omega (arith, inside.low) in
@@ -132,7 +132,7 @@ poured_there s k l offsets old new z y x at count first step p lawful h place kn
         let fits = h.good (p.x - x) lt in
         record { fits = rw offset fits; there = rw (item, offset) (h.given (p.x - x) lt fits) }
 
-    kept : (IsIn p z y x count → ⊥) → IsPoured s k l offsets old p ⊎ IsIn p z y x count → IsPoured s k l offsets new p
+    kept : (IsIn p z y x count → ⊥) → IsWritten s k l offsets old p ⊎ IsIn p z y x count → IsWritten s k l offsets new p
     kept out (inr inside) = absurd (out inside)
     kept out (inl was) = record { fits = was.fits; there = h.others (place_index s (order_of l.order s) p) apart ∙ was.there }
       where
@@ -150,7 +150,7 @@ poured_there s k l offsets old new z y x at count first step p lawful h place kn
 
 -- where all samples have their bytes, so have those of a piece
 pub piece_fits : (s : Sizes) (k : SampleKind) (l : Layout) (offsets : List ℕ) (z y x at count : ℕ) → z < s.bands → y < s.rows → x + count ≤ s.columns
-    → at ≡ index_in s.columns s.rows z y x → CanBePoured s k l offsets → (j : ℕ) → j < count → HasBytes k l (sample_of k (get_or offsets (at + j) 0))
+    → at ≡ index_in s.columns s.rows z y x → CanBeWritten s k l offsets → (j : ℕ) → j < count → HasBytes k l (sample_of k (get_or offsets (at + j) 0))
 piece_fits s k l offsets z y x at count band row columns at_is all j lt =
     let there : index_in s.columns s.rows z y (x + j) ≡ at + j = omega (arith, at_is) in
     rw there at (all (record { z = z; y = y; x = x + j }) (record { band = band; row = row; column = omega arith }))
@@ -158,7 +158,7 @@ piece_fits s k l offsets z y x at count band row columns at_is all j lt =
 -- the bytes of all samples, where they follow one another as in the cube
 pub all_given : (s : Sizes) (k : SampleKind) (l : Layout) (offsets new : List ℕ) (count : ℕ) → l.order ≡ raw.Bsq → count ≡ sample_count s
     → ((j : ℕ) → j < count → SpellOffset k l (get_or offsets (0 + j) 0) (bytes_at l new (0 + j * 1)))
-    → ((j : ℕ) → j < count → HasBytes k l (sample_of k (get_or offsets (0 + j) 0))) → ArePoured s k l offsets new
+    → ((j : ℕ) → j < count → HasBytes k l (sample_of k (get_or offsets (0 + j) 0))) → AreWritten s k l offsets new
 all_given s k l offsets new count e n given good p place =
     let lt : index_in s.columns s.rows p.z p.y p.x < count = rw n (index_below s.columns s.rows s.bands p.z p.y p.x place.band place.row place.column) in
     let item : place_index s (order_of l.order s) p ≡ 0 + index_in s.columns s.rows p.z p.y p.x * 1 = rw e (sequential_index s p ∙ omega arith) in
@@ -167,7 +167,7 @@ all_given s k l offsets new count e n given good p place =
     record { fits = rw here at fits; there = rw item (rw here at (given (index_in s.columns s.rows p.z p.y p.x) lt fits)) }
 
 -- where all samples have their bytes, each of the first ones has
-pub all_fit : (s : Sizes) (k : SampleKind) (l : Layout) (offsets : List ℕ) (count : ℕ) → count ≡ sample_count s → CanBePoured s k l offsets → (j : ℕ)
+pub all_fit : (s : Sizes) (k : SampleKind) (l : Layout) (offsets : List ℕ) (count : ℕ) → count ≡ sample_count s → CanBeWritten s k l offsets → (j : ℕ)
     → j < count → HasBytes k l (sample_of k (get_or offsets (0 + j) 0))
 all_fit s k l offsets count n all j lt =
     let there = place_of s Bsq j tt (omega arith) in

@@ -9,7 +9,7 @@ pub use Rattle.cube_core.specs.Layout.{IsLayout, order_of, twos_complement, raw_
 unfoldable pub use Rattle.cube_core.specs.Layout.{sample_bytes, raw_bytes, samples_in}
 pub use Rattle.cube_core.specs.Scale.{StandsFor, SpellOffset, half_of, zero_offset, number_of_rebased}
 pub use Rattle.cube_core.specs.Raw.{AreOffsetsOf, IsOffsetOf, AreSamples}
-pub use Rattle.cube_core.specs.Pieces.{LieEvenly, IsPoured, ArePoured, CanBePoured, sample_by}
+pub use Rattle.cube_core.specs.Pieces.{LieEvenly, IsWritten, AreWritten, CanBeWritten, sample_by}
 pub use Rattle.cube_core.specs.Offsets.{AreOffsets, AreRowOffsets}
 unfoldable pub use Rattle.cube_core.specs.Offsets.{samples_of}
 pub use Rattle.cube_core.specs.Cursor.{IsSpot, IsWalk}

@@ -1,11 +1,11 @@
--- How the places of one band, and those of one row, come along the encoding order.
+-- How the places of a band, and those of a row, follow one another in encoding order.
 use Rattle.std.specs.Prelude.{ℕ, suc, ◌≡◌, ◌+◌, ◌*◌, ◌<◌, ◌↔◌, List, slice_get, Some}
 use Rattle.cube_core.specs.declared.order.Order.{Order}
 use Rattle.cube_core.specs.declared.order.Place.{Place}
 use Rattle.cube_core.specs.Shape.{Sizes}
 use Rattle.cube_core.specs.Order.{IsPlaceOf, place_index}
 
--- band z has come to raster index t where the walk has come to index i: its places of a lesser raster index are those of a lesser index
+-- of band z, the first i places in encoding order are exactly its first t places in raster order
 abbrev pub HasCome : Sizes → Order → ℕ → ℕ → ℕ → Type 0
 HasCome s o z i t = (p : Place) → IsPlaceOf s p → p.z ≡ z → (place_index s o p < i) ↔ (p.y * s.columns + p.x < t)
 

@@ -7,17 +7,17 @@ use Rattle.cube_core.specs.declared.cursor.Spot.{Spot}
 use Rattle.cube_core.specs.Shape.{Sizes, sample_count}
 use Rattle.cube_core.specs.Order.{IsOrder, IsPlaceOf, place_index, places}
 
--- a place, and under interleaving the first band of its group and the band after its last
+-- a place and, under interleaving, the first band of its group and the band after the group's last
 abbrev pub IsSpot : Sizes → Order → Spot → Type 0
 IsSpot s Bsq p = IsPlaceOf s p.place
 IsSpot s (Bi depth) p = IsPlaceOf s p.place × (p.first ≡ p.place.z / depth * depth) × (p.end ≡ min (p.first + depth) s.bands)
 
--- the next place to come is the spot's, where there is one
+-- `left` places are still to come, and the spot is the first of them, if there is one
 pub record IsWalk (s : Sizes) (o : Order) (p : Spot) (left : ℕ) : Type 0 where
   pub lawful : IsOrder s o
   pub few : left ≤ sample_count s
   pub spot : 0 < left → IsSpot s o p × (place_index s o p.place + left ≡ sample_count s)
 
--- the last so many places of the encoding order
+-- the last `left` places of the encoding order
 unfoldable pub places_left : Sizes → Order → ℕ → List Place
 places_left s o left = drop (sample_count s - left) (places s o)

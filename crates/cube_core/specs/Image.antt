@@ -15,7 +15,7 @@ pub record IsCube (c : Image) : Type 0 where
   pub whole : length c.samples ≡ sample_count c.shape
   pub range : (i : ℕ) → i < length c.samples → IsSample c.kind (slice_index_or c.samples i (pos 0))
 
--- where a sample stands in the list
+-- the index of a sample in the list
 abbrev pub index_in : ℕ → ℕ → ℕ → ℕ → ℕ → ℕ
 index_in columns rows z y x = (z * rows + y) * columns + x
 
@@ -23,12 +23,12 @@ index_in columns rows z y x = (z * rows + y) * columns + x
 unfoldable pub sample_at : Image → ℕ → ℕ → ℕ → ℤ
 sample_at c z y x = slice_index_or c.samples (index_in c.shape.columns c.shape.rows z y x) (pos 0)
 
--- a place of an image with these sizes
+-- band z, row y and column x are those of a place
 pub record IsPlace (s : Sizes) (z y x : ℕ) : Type 0 where
   pub band : z < s.bands
   pub row : y < s.rows
   pub column : x < s.columns
 
--- the image with another sample at one place
+-- the image with its sample at band z, row y, column x replaced by v
 abbrev pub put : Image → ℕ → ℕ → ℕ → ℤ → Image
 put c z y x v = record c { samples = slice_set c.samples (index_in c.shape.columns c.shape.rows z y x) v }

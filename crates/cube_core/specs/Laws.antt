@@ -8,7 +8,7 @@ use Rattle.cube_core.specs.Kind.{SampleKind, IsKind, IsSample}
 use Rattle.cube_core.specs.Layout.{HasBytes}
 use Rattle.cube_core.specs.Order.{IsOrder, IsPlaceOf, places, place_index, place_key, IsBefore}
 
--- a list that holds the places of the sizes, each once, by strictly increasing keys
+-- a list that holds each place once, and nothing else, by strictly increasing keys
 pub record AreByKey (s : Sizes) (o : Order) (ps : List Place) : Type 0 where
   pub all : (p : Place) → IsPlaceOf s p → (i : ℕ) × (slice_get ps i ≡ Some p)
   pub only : (i : ℕ) (p : Place) → slice_get ps i ≡ Some p → IsPlaceOf s p
@@ -19,7 +19,7 @@ pub record AreByKey (s : Sizes) (o : Order) (ps : List Place) : Type 0 where
 abbrev pub OrderIsByKey : Type 0
 OrderIsByKey = (s : Sizes) (o : Order) → IsOrder s o → AreByKey s o (places s o)
 
--- the item at a place's index is the place
+-- the item at the index of a place is the place
 abbrev pub ItemOfIndex : Type 0
 ItemOfIndex = (s : Sizes) (o : Order) (p : Place) → IsOrder s o → IsPlaceOf s p → slice_get (places s o) (place_index s o p) ≡ Some p
 
@@ -27,6 +27,6 @@ ItemOfIndex = (s : Sizes) (o : Order) (p : Place) → IsOrder s o → IsPlaceOf 
 abbrev pub IndexOfItem : Type 0
 IndexOfItem = (s : Sizes) (o : Order) (p : Place) (i : ℕ) → IsOrder s o → slice_get (places s o) i ≡ Some p → place_index s o p ≡ i
 
--- two bytes spell each sample, and one byte each of at most eight bits
+-- two bytes can spell each sample, and one byte each sample of at most eight bits
 abbrev pub WideEnough : Type 0
 WideEnough = (k : SampleKind) (l : Layout) (v : ℤ) → IsKind k → k.bits ≤ 8 * l.bytes → IsSample k v → HasBytes k l v

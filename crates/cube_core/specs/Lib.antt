@@ -1,6 +1,6 @@
 pub mod Along
 pub mod Cursor
-pub mod Everything
+pub mod Unfold
 pub mod Offsets
 pub mod Greatest
 pub mod Image
@@ -10,7 +10,7 @@ pub mod Layout
 pub mod Order
 pub mod Pieces
 pub mod Raw
-pub mod Rows
+pub mod Examples
 pub mod Scale
 pub mod Shape
 pub mod Steps

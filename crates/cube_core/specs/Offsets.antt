@@ -1,4 +1,4 @@
--- How a cube keeps its samples: each as its offset from the least sample of the kind.
+-- How a cube keeps its samples: each as its offset s - s_min from the least sample of the kind.
 use Rattle.std.specs.Prelude.{ℕ, ◌≡◌, ◌<◌, ◌^◌, ℤ, List, length, map, slice_index}
 use Rattle.cube_core.specs.Shape.{Sizes, sample_count}
 use Rattle.cube_core.specs.Kind.{SampleKind, sample_of}
@@ -7,7 +7,7 @@ use Rattle.cube_core.specs.Image.{Image, sample_at}
 unfoldable pub samples_of : SampleKind → List ℕ → List ℤ
 samples_of k offsets = map (sample_of k) offsets
 
--- one offset for each place, each within the kind's bits
+-- one offset for each place, each below 2^D
 pub record AreOffsets (s : Sizes) (k : SampleKind) (offsets : List ℕ) : Type 0 where
   pub whole : length offsets ≡ sample_count s
   pub range : (i : ℕ) → i < length offsets → slice_index offsets i < 2 ^ k.bits

@@ -6,13 +6,13 @@ use Rattle.cube_core.specs.declared.fault.Field.TheVariants.{Columns, Rows, Band
 use Rattle.cube_core.specs.declared.fault.Field.{Field}
 use Rattle.cube_core.specs.Steps.{Test, ◌>>◌, refuse_if}
 
--- how many columns, rows and bands an image has
+-- the numbers of columns, rows and bands of an image
 pub record Sizes : Type 0 where
   pub columns : ℕ
   pub rows : ℕ
   pub bands : ℕ
 
--- a number from a least one to a greatest one
+-- n is from `least` to `most`
 abbrev pub InRange : ℕ → ℕ → ℕ → Type 0
 InRange least most n = (least ≤ n) × (n ≤ most)
 
@@ -22,15 +22,15 @@ pub record AreSizes (s : Sizes) : Type 0 where
   pub rows : InRange 1 65536 s.rows
   pub bands : InRange 1 65536 s.bands
 
--- a size is in range, or it is refused under its name
+-- a size out of range is refused under its name
 abbrev pub size_or_fault : Field → ℕ → Test
 size_or_fault field size = refuse_if (not (nat_le 1 size && nat_le size 65536)) (FieldRange field (pos size))
 
--- the sizes, or the first of them that is out of range
+-- the sizes, or the refusal of the first that is out of range
 abbrev pub sizes_or_fault : Sizes → Result Sizes Fault
 sizes_or_fault s =
     size_or_fault Columns s.columns >> size_or_fault Rows s.rows >> size_or_fault Bands s.bands >> Ok s
 
--- how many samples an image of these sizes has
+-- the number of samples of an image of these sizes
 abbrev pub sample_count : Sizes → ℕ
 sample_count s = s.bands * s.rows * s.columns

@@ -6,16 +6,16 @@ use Rattle.cube_core.specs.declared.order.Place.{Place}
 use Rattle.cube_core.specs.Shape.{Sizes}
 use Rattle.cube_core.specs.Order.{IsPlaceOf, place_index}
 
--- how many bands the largest group of an order has
+-- a bound on the number of bands in a group: 1 in band sequential order, otherwise the depth
 abbrev pub most_bands : Order → ℕ
 most_bands Bsq = 1
 most_bands (Bi depth) = depth
 
--- the place i columns after another, b bands above it
+-- the place i columns and b bands further on
 abbrev pub place_in : Place → ℕ → ℕ → Place
 place_in q i b = record { z = q.z + b; y = q.y; x = q.x + i }
 
--- from the place q on, in each of so many columns so many bands: column after column, and in each from its lowest band on
+-- `width` columns of `depth` bands each, from place q on, whose places follow one another in encoding order: column after column, each by increasing band
 pub record IsTiled (s : Sizes) (o : Order) (q : Place) (width depth : ℕ) : Type 0 where
   pub place : IsPlaceOf s q
   pub some : (1 ≤ width) × (1 ≤ depth)

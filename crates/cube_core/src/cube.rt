@@ -13,8 +13,8 @@ use crate::cursor::Places;
 use crate::fault::Fault;
 use crate::kind::Kind;
 use crate::layout::Layout;
-use crate::pour::pour;
-use crate::raw::fill;
+use crate::raw_read::read_raw;
+use crate::raw_write::write_raw;
 use crate::shape::{Shape, index_at};
 use std::alloc::Global;
 use std::marker::Model;
@@ -84,7 +84,7 @@ impl Cube {
             return Err(Fault::RawLength { wanted, had });
         }
         let mut offsets = vec![in alloc; 0u16; shape.sample_count() as usize]?;
-        fill(shape, kind, layout, bytes, &mut offsets)?;
+        read_raw(shape, kind, layout, bytes, &mut offsets)?;
         Ok(Cube {
             shape,
             kind,
@@ -107,7 +107,7 @@ impl Cube {
         // At most 2^48 samples, so no length overflows.
         let _count = shape.sample_count();
         let mut bytes = vec![in alloc; 0u8; layout.length(shape) as usize]?;
-        if pour(shape, self.kind, layout, &self.offsets, &mut bytes) {
+        if write_raw(shape, self.kind, layout, &self.offsets, &mut bytes) {
             Ok(bytes)
         } else {
             Err(Fault::SampleRange {

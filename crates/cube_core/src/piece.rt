@@ -1,4 +1,4 @@
-//! Pieces of a row of samples, which lie evenly spaced in raw bytes.
+//! Pieces of a row of samples, which lie evenly spaced in raw bytes, read and written.
 
 ghost use Rattle.std.specs.Prelude.{ℕ, ℤ, ◌≡◌, ◌≢◌, ◌⊎◌, ◌↔◌, ◌*◌, ◌+◌, ◌<◌, ◌≤◌, ◌^◌, IsTrue, length, slice_index};
 ghost use Rattle.cube_core.specs.Image.{IsPlace, index_in};
@@ -17,7 +17,7 @@ use byteorder::{BigEndian, ByteOrder, LittleEndian};
 /// the cache.
 pub(crate) const BLOCK: u32 = 32;
 
-/// Samples that follow one another in the cube: some of a row, or, where the layout is band-sequential, all of them.
+/// Samples that follow one another in the cube: some of a row, or all of them if the layout is band sequential.
 #[derive(Clone, Copy)]
 pub(crate) struct Piece {
     /// The index of the first one in the cube.
@@ -67,8 +67,8 @@ impl Piece {
     }
 }
 
-/// Writes the offsets of a piece's samples, and returns whether all of them are of the kind.
-pub(crate) fn take_piece(
+/// Reads the samples of a piece, writes their offsets, and returns whether all of them are of the kind.
+pub(crate) fn read_piece(
     layout: Layout,
     scale: &Scale,
     piece: Piece,
@@ -86,16 +86,16 @@ pub(crate) fn take_piece(
     ensures good { IsTrue result ↔ ((x : ℕ) → x < piece.count → slice_index offsets.new (piece.at + x) < 2 ^ scale.now.kind.bits) }
 {
     if layout.bytes == 1 {
-        take_numbers::<1, false>(layout, scale, piece, bytes, offsets)
+        read_numbers::<1, false>(layout, scale, piece, bytes, offsets)
     } else if layout.little {
-        take_numbers::<2, true>(layout, scale, piece, bytes, offsets)
+        read_numbers::<2, true>(layout, scale, piece, bytes, offsets)
     } else {
-        take_numbers::<2, false>(layout, scale, piece, bytes, offsets)
+        read_numbers::<2, false>(layout, scale, piece, bytes, offsets)
     }
 }
 
-/// Does the same, with the form of the numbers known at compile time.
-fn take_numbers<const BYTES: u32, const LITTLE: bool>(
+/// `read_piece` with the number of bytes, and which of them is first, known at compile time.
+fn read_numbers<const BYTES: u32, const LITTLE: bool>(
     layout: Layout,
     scale: &Scale,
     piece: Piece,
@@ -143,8 +143,8 @@ fn number_at<const BYTES: u32, const LITTLE: bool>(layout: Layout, bytes: &[u8],
     }
 }
 
-/// Writes the numbers of a piece's samples, and returns whether all of them fit in their bytes.
-pub(crate) fn give_piece(
+/// Writes the raw numbers of a piece's samples, and returns whether all of them fit in their bytes.
+pub(crate) fn write_piece(
     layout: Layout,
     scale: &Scale,
     piece: Piece,
@@ -165,16 +165,16 @@ pub(crate) fn give_piece(
         → HasBytes scale.now.kind layout (sample_of scale.now.kind (slice_index offsets.now (piece.at + x)))) }
 {
     if layout.bytes == 1 {
-        give_numbers::<1, false>(layout, scale, piece, offsets, bytes)
+        write_numbers::<1, false>(layout, scale, piece, offsets, bytes)
     } else if layout.little {
-        give_numbers::<2, true>(layout, scale, piece, offsets, bytes)
+        write_numbers::<2, true>(layout, scale, piece, offsets, bytes)
     } else {
-        give_numbers::<2, false>(layout, scale, piece, offsets, bytes)
+        write_numbers::<2, false>(layout, scale, piece, offsets, bytes)
     }
 }
 
-/// Does the same, with the form of the numbers known at compile time.
-fn give_numbers<const BYTES: u32, const LITTLE: bool>(
+/// `write_piece` with the number of bytes, and which of them is first, known at compile time.
+fn write_numbers<const BYTES: u32, const LITTLE: bool>(
     layout: Layout,
     scale: &Scale,
     piece: Piece,

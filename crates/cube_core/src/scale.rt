@@ -1,4 +1,4 @@
-//! Numbers of raw bytes as offsets from the least sample of a kind.
+//! Raw numbers as offsets from the least sample of a kind, and back.
 
 ghost use Rattle.std.specs.Prelude.{◌≡◌, ◌⊎◌, ◌↔◌, ◌*◌, ◌+◌, ◌%◌, ◌<◌, ◌≤◌, ◌^◌, IsTrue};
 ghost use Rattle.cube_core.specs.Kind.{IsKind, IsSample, sample_of};
@@ -7,20 +7,20 @@ ghost use Rattle.cube_core.specs.Scale.{half_of, zero_offset, number_of_rebased}
 
 use crate::kind::Kind;
 
-/// Turns the numbers of one or two bytes into offsets and back, with no branch on the sign.
+/// Turns raw numbers of one or two bytes into offsets and back, with no branch on the sign.
 #[derive(Clone, Copy)]
 pub(crate) struct Scale {
     kind: Kind,
     bytes: u32,
-    /// Half the number of values of that many bytes where samples are signed, else 0.
+    /// Half the number of values of that many bytes if samples are signed, else 0.
     half: u16,
     /// The offset, from the least sample, of the least number of that many bytes, modulo 2^16.
-    lift: u16,
+    bias: u16,
     /// The greatest offset of a sample.
     most: u16,
     ghost kind_is: { IsKind kind },
     ghost half_is: { half ≡ half_of kind.signed bytes },
-    ghost lift_is: { (lift + half) % 65536 ≡ zero_offset kind },
+    ghost bias_is: { (bias + half) % 65536 ≡ zero_offset kind },
     ghost most_is: { most + 1 ≡ 2 ^ kind.bits },
 }
 
@@ -42,12 +42,12 @@ impl Scale {
             kind,
             bytes,
             half,
-            lift: kind.offset_of(0).wrapping_sub(half),
+            bias: kind.offset_of(0).wrapping_sub(half),
             most: kind.offset_of(kind.smax()),
         }
     }
 
-    /// Returns the offset of a number, or some number above the greatest offset where it is no sample.
+    /// Returns the offset of a raw number, or some number above the greatest offset if it spells no sample.
     pub(crate) fn offset<const BYTES: u32>(&self, number: u16) -> u16
         requires bytes { self.now.bytes ≡ BYTES }
         requires width { (BYTES ≡ 1) ⊎ (BYTES ≡ 2) }
@@ -57,7 +57,7 @@ impl Scale {
     {
         let rebased = number.wrapping_add(self.half);
         let rebased = if BYTES == 1 { rebased % 256 } else { rebased };
-        rebased.wrapping_add(self.lift)
+        rebased.wrapping_add(self.bias)
     }
 
     /// Returns whether the greatest of some offsets, and so each of them, belongs to a sample.
@@ -77,7 +77,7 @@ impl Scale {
         ensures code { result < 2 ^ (8 * self.now.bytes) → raw_code self.now.bytes (sample_of self.now.kind offset) ≡ number_of_rebased self.now.kind.signed
             self.now.bytes result }
     {
-        offset.wrapping_sub(self.lift)
+        offset.wrapping_sub(self.bias)
     }
 
     /// Returns the number in the bytes, from the rebased offset of its sample.

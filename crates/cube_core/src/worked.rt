@@ -1,5 +1,5 @@
 //! Worked examples of shapes, orders and raw layouts.
-#![tactic(auto, unfolding(crate::specs::Everything::everything))]
+#![tactic(auto, unfolding(crate::specs::Unfold::everything))]
 
 ghost use Rattle.std.specs.Prelude.{◌≡◌, [], ◌∷◌, take, pos, neg_ℤ, true, false, Err, Ok};
 ghost use Rattle.cube_core.specs.declared.fault.Fault.TheVariants.{FieldRange};
@@ -9,7 +9,7 @@ ghost use Rattle.cube_core.specs.declared.order.Order.TheVariants.{Bsq, Bi};
 ghost use Rattle.cube_core.specs.Kind.{kind_or_fault, smin, smax, smid};
 ghost use Rattle.cube_core.specs.Layout.{raw_value, raw_bytes};
 ghost use Rattle.cube_core.specs.Order.{places, place_index};
-ghost use Rattle.cube_core.specs.Rows.{sizes, place, unsigned, signed, layout, lone, numbered};
+ghost use Rattle.cube_core.specs.Examples.{sizes, place, unsigned, signed, layout, lone, numbered};
 ghost use Rattle.cube_core.specs.Shape.{sizes_or_fault};
 
 /// Three bands, two a group: the last group has one.

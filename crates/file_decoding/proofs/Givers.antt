@@ -13,13 +13,13 @@ use Rattle.header_bits.specs.Bits.{Unread}
 use Rattle.header_bits.specs.Lawful.{IsLawful}
 use Rattle.header_bits.proofs.Items.{all_append}
 use Rattle.sample_adaptive.specs.Settings.{IsSample}
-use Rattle.sample_adaptive.specs.Taken.{Counts, GetsEach}
+use Rattle.sample_adaptive.specs.Taken.{CoderState, GetsEach}
 use Rattle.sample_adaptive.specs.Given.{GivesMore as SamplesGive}
 use Rattle.sample_adaptive.proofs.ForSamples.{sample_is}
 use Rattle.sample_adaptive.proofs.Given.{each_given, given_whole as samples_whole}
 use Rattle.block_adaptive.specs.DataSets.{capacity}
 use Rattle.block_adaptive.specs.Settings.{IsBlock}
-use Rattle.block_adaptive.specs.Given.{Unpacked, given_count, GivesMoreOf}
+use Rattle.block_adaptive.specs.Given.{ReaderState, given_count, GivesMoreOf}
 use Rattle.block_adaptive.specs.Reading.{block_body_at}
 use Rattle.block_adaptive.proofs.Given.{block_is, given_whole as blocks_whole}
 use Rattle.file_decoding.specs.declared.decoder.Decoder.{Decoder}
@@ -51,7 +51,7 @@ may_give (Blocks v) {count = count} m some = omega (arith, some, m.given.count, 
 -- ---- what is given after other numbers
 
 pub samples_give : {X : Type 0} (numbers_of : X → List ℕ) (r : Result X Fault) (p : Params) (numbers : List ℕ) (bits : List Bool) (unread : Unread)
-    (new : Counts) (left : List Bool) → IsSample p.coder → SamplesGive numbers_of r p numbers bits unread new left
+    (new : CoderState) (left : List Bool) → IsSample p.coder → SamplesGive numbers_of r p numbers bits unread new left
     → GivesMore numbers_of r p numbers bits unread (Samples new) left
 unfolding after_body
 samples_give numbers_of (Ok x) p numbers bits unread new left coder did = did
@@ -59,7 +59,7 @@ samples_give numbers_of (Err fault) p numbers bits unread new left coder did =
     let k = sample_is p.coder coder in
     rw k.4 (rw (rw k.4 at did) refl)
 
-pub samples_each : (r : Result (Unit {0}) Fault) (zs ts : ℕ → ℕ) (index : ℕ) (old new : Counts) (unread : Unread) (left : List Bool) (list : List ℕ)
+pub samples_each : (r : Result (Unit {0}) Fault) (zs ts : ℕ → ℕ) (index : ℕ) (old new : CoderState) (unread : Unread) (left : List Bool) (list : List ℕ)
     → GetsEach zs ts 0 index r old unread new left list → length new.bands ≡ length old.bands
     → GivesEach zs ts index r (Samples old) unread (Samples new) left list
 samples_each r zs ts index old new unread left list gets kept m =
@@ -67,7 +67,7 @@ samples_each r zs ts index old new unread left list gets kept m =
     (each_given r zs ts index m.params old new m.numbers list m.bits unread left gets kept m.given m.stands m.ask)
 
 pub blocks_give : {X : Type 0} (numbers_of : X → List ℕ) (r : Result X Fault) (p : Params) (numbers : List ℕ) (bits : List Bool) (unread : Unread)
-    (new : Unpacked) (left : List Bool) → IsBlock p.coder → GivesMoreOf numbers_of r p numbers bits unread new left
+    (new : ReaderState) (left : List Bool) → IsBlock p.coder → GivesMoreOf numbers_of r p numbers bits unread new left
     → GivesMore numbers_of r p numbers bits unread (Blocks new) left
 unfolding after_body block_body_at
 blocks_give numbers_of (Ok x) p numbers bits unread new left coder did = did

@@ -55,8 +55,8 @@ abbrev pub AreEach : Params → ℕ → (ℕ → ℕ) → (ℕ → ℕ) → ℕ 
 AreEach p n zs ts count = (i : ℕ) (numbers : List ℕ) → i < count → length numbers ≡ n + i → IsNext p numbers (zs i) (ts i)
 
 -- they are those of band z from its number t on
-abbrev pub AreNumbers : Params → ℕ → ℕ → ℕ → ℕ → Type 0
-AreNumbers p n z t count = AreEach p n (λ i. z) (λ i. t + i) count
+abbrev pub AreResiduals : Params → ℕ → ℕ → ℕ → ℕ → Type 0
+AreResiduals p n z t count = AreEach p n (λ i. z) (λ i. t + i) count
 
 -- they are the numbers t of bands one above another, from band z on
 abbrev pub AreAbove : Params → ℕ → ℕ → ℕ → ℕ → Type 0

@@ -14,8 +14,8 @@ use Rattle.header_bits.specs.declared.params.Params.{Params}
 use Rattle.header_bits.specs.declared.params.Coder.{Coder}
 use Rattle.header_bits.specs.declared.params.Coder.TheVariants.{Sample, Block}
 use Rattle.sample_adaptive.specs.Settings.{settings, IsSample}
-use Rattle.sample_adaptive.specs.Body.{sample_body, words_after, band_numbers}
-use Rattle.sample_adaptive.specs.Taken.{Counts, HasTaken as HaveTaken, PutsNumber as PutsOne, PutsRun as PutsMany, PutsColumn as PutsOnes}
+use Rattle.sample_adaptive.specs.Body.{sample_body, words_after, band_residuals}
+use Rattle.sample_adaptive.specs.Taken.{CoderState, HasTaken as HaveTaken, PutsResidual as PutsOne, PutsRun as PutsMany, PutsColumn as PutsOnes}
 use Rattle.sample_adaptive.specs.Words.{code_word, code_at}
 use Rattle.sample_adaptive.proofs.ForSamples.{settings_bits}
 use Rattle.sample_adaptive.proofs.Running.{body_run}
@@ -25,12 +25,12 @@ use Rattle.block_adaptive.proofs.Given.{cut_bits}
 use Rattle.block_adaptive.specs.Chosen.{chosen_block_body}
 use Rattle.block_adaptive.specs.DataSets.{Cut}
 use Rattle.block_adaptive.specs.Segments.{block_count}
-use Rattle.block_adaptive.specs.Taken.{Packed, taken_count, PutsAll as PutsList, EndsBody as EndsBlocks}
+use Rattle.block_adaptive.specs.Taken.{WriterState, taken_count, PutsAll as PutsList, EndsBody as EndsBlocks}
 use Rattle.file_encoding.specs.declared.encoder.Encoder.{Encoder}
 use Rattle.file_encoding.specs.declared.encoder.Encoder.TheVariants.{Samples, Blocks}
 use Rattle.file_format.specs.File.{body_of, body_by}
 use Rattle.sample_adaptive.specs.Given.{places_of}
-use Rattle.file_encoding.specs.Coding.{places_after, of_band, SamplesTaken, HasTaken, MayPut, PutsNumber, PutsRun, PutsColumn, PutsBlocks, EndsBody}
+use Rattle.file_encoding.specs.Coding.{places_after, of_band, SamplesTaken, HasTaken, MayPut, PutsResidual, PutsRun, PutsColumn, PutsBlocks, EndsBody}
 
 -- ---- places
 
@@ -49,14 +49,14 @@ run_count p numbers count fits =
 
 -- ---- by samples
 
-pub samples_none : (p : Params) (v : Counts) → IsSample p.coder → length v.bands ≡ p.shape.bands → HaveTaken (settings p) v (λ z. []) → SamplesTaken p v [] []
-unfolding band_numbers sample_body words_after
+pub samples_none : (p : Params) (v : CoderState) → IsSample p.coder → length v.bands ≡ p.shape.bands → HaveTaken (settings p) v (λ z. []) → SamplesTaken p v [] []
+unfolding band_residuals sample_body words_after
 samples_none p v coder bands taken = record { coder = coder; bands = bands; depth = taken.bits ∙ settings_bits p; taken = taken; text = refl }
 
 -- the numbers of a run more
-pub samples_more_run : (p : Params) (old new : Counts) (numbers run : List ℕ) (bits : List Bool) → length numbers + length run ≤ length (places p.shape p.order)
+pub samples_more_run : (p : Params) (old new : CoderState) (numbers run : List ℕ) (bits : List Bool) → length numbers + length run ≤ length (places p.shape p.order)
     → SamplesTaken p old numbers bits → (length new.bands ≡ length old.bands) × (new.bits ≡ old.bits)
-    → HaveTaken (settings p) new (λ b. band_numbers b (places_of p numbers ++ places_after p numbers (length run)) (numbers ++ run))
+    → HaveTaken (settings p) new (λ b. band_residuals b (places_of p numbers ++ places_after p numbers (length run)) (numbers ++ run))
     → SamplesTaken p new (numbers ++ run) (bits ++ words_after (settings p) (places_of p numbers) numbers (places_after p numbers (length run)) run)
 samples_more_run p old new numbers run bits fits h kept taken =
     let long = places_long p numbers (omega (arith, fits)) in
@@ -66,11 +66,11 @@ samples_more_run p old new numbers run bits fits h kept taken =
       coder = h.coder;
       bands = kept.0 ∙ h.bands;
       depth = kept.1 ∙ h.depth;
-      taken = subst (λ (qs : List Place). HaveTaken (settings p) new (λ b. band_numbers b qs (numbers ++ run))) (sym whole) taken;
+      taken = subst (λ (qs : List Place). HaveTaken (settings p) new (λ b. band_residuals b qs (numbers ++ run))) (sym whole) taken;
       text = rw (whole, body_run (settings p) (places_of p numbers) (places_after p numbers (length run)) numbers run long, ← h.text) refl;
     }
 
-pub samples_run : (z t : ℕ) (run : List ℕ) (old new : Counts) (written now : List Bool) → PutsMany z t run old written new now
+pub samples_run : (z t : ℕ) (run : List ℕ) (old new : CoderState) (written now : List Bool) → PutsMany z t run old written new now
     → (length new.bands ≡ length old.bands) × (new.bits ≡ old.bits) → PutsRun z t run (Samples old) written (Samples new) now
 samples_run z t run old new written now puts kept p numbers bits h next =
     let long = places_long p numbers (omega (arith, next.fits)) in
@@ -79,10 +79,10 @@ samples_run z t run old new written now puts kept p numbers bits h next =
     (words_after (settings p) (places_of p numbers) numbers qs run, did.0, samples_more_run p old new numbers run bits next.fits h kept did.1)
 
 -- one number more
-pub samples_more : (p : Params) (old new : Counts) (numbers : List ℕ) (bits : List Bool) (q : Place) (number : ℕ)
+pub samples_more : (p : Params) (old new : CoderState) (numbers : List ℕ) (bits : List Bool) (q : Place) (number : ℕ)
     → slice_get (places p.shape p.order) (length numbers) ≡ Some q → SamplesTaken p old numbers bits
     → (length new.bands ≡ length old.bands) × (new.bits ≡ old.bits)
-    → HaveTaken (settings p) new (λ z. band_numbers z (places_of p numbers ++ q ∷ []) (numbers ++ number ∷ []))
+    → HaveTaken (settings p) new (λ z. band_residuals z (places_of p numbers ++ q ∷ []) (numbers ++ number ∷ []))
     → SamplesTaken p new (numbers ++ number ∷ []) (bits ++ code_word (code_at (settings p) q.z (of_band p numbers q.z)) number)
 unfolding words_after
 samples_more p old new numbers bits q number e h kept taken =
@@ -91,8 +91,8 @@ samples_more p old new numbers bits q number e h kept taken =
     let one : places_after p numbers 1 ≡ q ∷ [] = rw (drop_more all (length numbers) q lt, get_or_from_slice_get all (length numbers) q q e) refl in
     rw append-nil at (rw one at (samples_more_run p old new numbers (number ∷ []) bits (omega (arith, lt)) h kept (rw one taken)))
 
-pub samples_put : (z t number : ℕ) (old new : Counts) (written now : List Bool) → PutsOne z t number old written new now
-    → (length new.bands ≡ length old.bands) × (new.bits ≡ old.bits) → PutsNumber z t number (Samples old) written (Samples new) now
+pub samples_put : (z t number : ℕ) (old new : CoderState) (written now : List Bool) → PutsOne z t number old written new now
+    → (length new.bands ≡ length old.bands) × (new.bits ≡ old.bits) → PutsResidual z t number (Samples old) written (Samples new) now
 samples_put z t number old new written now puts kept p numbers bits h next =
     let q : Place = next.0 in
     let did = (rw (← next.2) at puts) (settings p) (of_band p numbers) h.taken (rw (← next.2) at next.3) in
@@ -100,9 +100,9 @@ samples_put z t number old new written now puts kept p numbers bits h next =
     let along = taken_along (settings p) new (places_of p numbers) numbers q number long did.1 in
     (code_word (code_at (settings p) q.z (of_band p numbers q.z)) number, did.0, samples_more p old new numbers bits q number next.1 h kept along)
 
-pub samples_column : (z t : ℕ) (column : List ℕ) (old new : Counts) (written now : List Bool) → PutsOnes z t column old written new now
+pub samples_column : (z t : ℕ) (column : List ℕ) (old new : CoderState) (written now : List Bool) → PutsOnes z t column old written new now
     → PutsColumn z t column (Samples old) written (Samples new) now
-samples_column z t [] old new written now h = (ap (λ (v : Counts). Samples v) h.0, h.1)
+samples_column z t [] old new written now h = (ap (λ (v : CoderState). Samples v) h.0, h.1)
 samples_column z t (number ∷ numbers) old new written now h =
     (Samples h.0, h.1, samples_put z t number old h.0 written h.1 h.4 (h.2, h.3), samples_column (suc z) t numbers h.0 new h.1 now h.5)
 
@@ -111,14 +111,14 @@ sample_body_is : (k : Coder) (p : Params) (numbers : List ℕ) → IsSample k �
 sample_body_is (Sample umax star zero start) p numbers s = refl
 sample_body_is (Block size restricted reference) p numbers s = absurd s
 
-pub samples_end : (v : Counts) (written : List Bool) → EndsBody (Samples v) written written
+pub samples_end : (v : CoderState) (written : List Bool) → EndsBody (Samples v) written written
 unfolding body_of
 samples_end v written p numbers bits h lawful long =
     ([], sym (append-nil written), rw (append-nil, h.text, places_whole p numbers lawful long, sample_body_is p.coder p numbers h.coder) refl)
 
 -- ---- by blocks
 
-pub blocks_put_all : (list : List ℕ) (old new : Packed) (written now : List Bool) → PutsList list old written new now → new.cut ≡ old.cut
+pub blocks_put_all : (list : List ℕ) (old new : WriterState) (written now : List Bool) → PutsList list old written new now → new.cut ≡ old.cut
     → taken_count new ≡ taken_count old + length list → PutsBlocks list (Blocks old) written (Blocks new) now
 blocks_put_all list old new written now puts kept counted p numbers bits h =
     let did = puts numbers bits h.taken in
@@ -136,7 +136,7 @@ block_body_is p c numbers coder e =
       | Sample umax star zero start ↦ λ s. absurd s
     ] coder)
 
-pub blocks_end : (v : Packed) (written now : List Bool) → EndsBlocks v written now → EndsBody (Blocks v) written now
+pub blocks_end : (v : WriterState) (written now : List Bool) → EndsBlocks v written now → EndsBody (Blocks v) written now
 blocks_end v written now ends p numbers bits h lawful long =
     let count : block_count v.cut.size (length numbers) ≡ v.cut.count = ap (block_count v.cut.size) long ∙ sym h.room.blocks in
     let did = ends numbers bits h.taken count in

@@ -13,7 +13,7 @@ use Rattle.cube_core.proofs.Orders.{length-places}
 use Rattle.header_bits.specs.declared.params.Params.{Params}
 use Rattle.header_bits.specs.Header.{header_of}
 use Rattle.sample_adaptive.proofs.Times.{number_of_place}
-use Rattle.file_encoding.specs.Coding.{TimeOfPlace, of_band, HasTaken, MayPut, PutsNumber, EndsBody}
+use Rattle.file_encoding.specs.Coding.{TimeOfPlace, of_band, HasTaken, MayPut, PutsResidual, EndsBody}
 use Rattle.file_encoding.specs.Ends.{Ending, HasCoded, MayCode, CodesAll}
 use Rattle.file_format.specs.File.{body_of, filled, packed, file_bits, file_of_residuals}
 use Rattle.file_encoding.proofs.Coders.{may_put}
@@ -76,7 +76,7 @@ coded_after old new list p numbers h fits moved columns word more grown taken = 
 
 -- the next place's residual was put
 pub coded_more : (old new : Ending) (place : Place) (t number : ℕ) → old.left ≡ place ∷ new.left → t ≡ place.y * old.columns + place.x
-    → new.columns ≡ old.columns → new.word ≡ old.word → PutsNumber place.z t number old.coder old.bits new.coder new.bits → CodesAll old new (number ∷ [])
+    → new.columns ≡ old.columns → new.word ≡ old.word → PutsResidual place.z t number old.coder old.bits new.coder new.bits → CodesAll old new (number ∷ [])
 coded_more old new place t number moved time columns word puts p numbers h =
     let next : slice_get old.left 0 ≡ Some place = rw moved refl in
     let item = item_next p old numbers place h next in

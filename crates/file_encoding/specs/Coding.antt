@@ -6,11 +6,11 @@ use Rattle.cube_core.specs.Shape.{sample_count}
 use Rattle.cube_core.specs.Order.{IsOrder, places}
 use Rattle.header_bits.specs.declared.params.Params.{Params}
 use Rattle.sample_adaptive.specs.Settings.{settings, IsSample}
-use Rattle.sample_adaptive.specs.Body.{band_numbers, sample_body}
+use Rattle.sample_adaptive.specs.Body.{band_residuals, sample_body}
 use Rattle.sample_adaptive.specs.Given.{IsNext, places_of}
-use Rattle.sample_adaptive.specs.Taken.{Counts, HasTaken as HaveTaken}
+use Rattle.sample_adaptive.specs.Taken.{CoderState, HasTaken as HaveTaken}
 use Rattle.block_adaptive.specs.Settings.{IsBlock, IsCutOf, cut_by}
-use Rattle.block_adaptive.specs.Taken.{Packed, EndsBlock, EndsInside, taken_count, HasTaken as HasPacked}
+use Rattle.block_adaptive.specs.Taken.{WriterState, EndsBlock, EndsInside, taken_count, HasTaken as HasPacked}
 use Rattle.block_adaptive.specs.DataSets.{capacity}
 use Rattle.file_encoding.specs.declared.encoder.Encoder.{Encoder}
 use Rattle.file_encoding.specs.declared.encoder.Encoder.TheVariants.{Samples, Blocks}
@@ -18,10 +18,10 @@ use Rattle.file_format.specs.File.{body_of}
 
 -- those of the numbers that are of band z
 abbrev pub of_band : Params → List ℕ → ℕ → List ℕ
-of_band p numbers z = band_numbers z (places_of p numbers) numbers
+of_band p numbers z = band_residuals z (places_of p numbers) numbers
 
 -- the sample-adaptive coder has taken the numbers, and the bits are their code words
-pub record SamplesTaken (p : Params) (v : Counts) (numbers : List ℕ) (bits : List Bool) : Type 0 where
+pub record SamplesTaken (p : Params) (v : CoderState) (numbers : List ℕ) (bits : List Bool) : Type 0 where
   pub coder : IsSample p.coder
   pub bands : length v.bands ≡ p.shape.bands
   pub depth : v.bits ≡ p.kind.bits
@@ -29,7 +29,7 @@ pub record SamplesTaken (p : Params) (v : Counts) (numbers : List ℕ) (bits : L
   pub text : bits ≡ sample_body (settings p) (places_of p numbers) numbers
 
 -- the block-adaptive coder has taken the numbers, and the bits are what it appended
-pub record BlocksTaken (p : Params) (v : Packed) (numbers : List ℕ) (bits : List Bool) : Type 0 where
+pub record BlocksTaken (p : Params) (v : WriterState) (numbers : List ℕ) (bits : List Bool) : Type 0 where
   pub coder : IsBlock p.coder
   pub cut : v.cut ≡ cut_by p
   pub room : IsCutOf (sample_count p.shape) v.cut
@@ -57,8 +57,8 @@ MayGrowAtEnd (Samples v) = ⊥
 MayGrowAtEnd (Blocks v) = EndsInside v
 
 -- whatever numbers were taken before: bits were appended, and with them one number more is taken
-abbrev pub PutsNumber : ℕ → ℕ → ℕ → Encoder → List Bool → Encoder → List Bool → Type 0
-PutsNumber z t number old written new written_now =
+abbrev pub PutsResidual : ℕ → ℕ → ℕ → Encoder → List Bool → Encoder → List Bool → Type 0
+PutsResidual z t number old written new written_now =
     (p : Params) (numbers : List ℕ) (bits : List Bool) → HasTaken p old numbers bits → IsNext p numbers z t
     → (more : List Bool) × (written_now ≡ written ++ more) × HasTaken p new (numbers ++ number ∷ []) (bits ++ more)
 
@@ -92,7 +92,7 @@ MayPutColumn (Blocks v) z column = ⊥
 abbrev pub PutsColumn : ℕ → ℕ → List ℕ → Encoder → List Bool → Encoder → List Bool → Type 0
 PutsColumn z t [] old written new written_now = (new ≡ old) × (written_now ≡ written)
 PutsColumn z t (number ∷ numbers) old written new written_now =
-    (mid : Encoder) × (written_mid : List Bool) × PutsNumber z t number old written mid written_mid
+    (mid : Encoder) × (written_mid : List Bool) × PutsResidual z t number old written mid written_mid
     × PutsColumn (suc z) t numbers mid written_mid new written_now
 
 -- numbers may be put as they come: the coder is the block-adaptive one, and has blocks for them

@@ -4,7 +4,7 @@ ghost use Rattle.std.specs.Prelude.{◌≡◌, ◌*◌, ◌<◌, ◌≤◌, [], 
 ghost use Rattle.cube_core.specs.declared.fault.Fault.TheVariants.{WantOfMemory};
 ghost use Rattle.header_bits.specs.Lawful.{IsLawful};
 ghost use Rattle.block_adaptive.specs.Settings.{IsBlock};
-ghost use Rattle.file_encoding.specs.Coding.{HasTaken, MayPut, MayPutRun, MayPutColumn, MayPutBlocks, MayGrow, MayGrowAtEnd, PutsNumber, PutsRun};
+ghost use Rattle.file_encoding.specs.Coding.{HasTaken, MayPut, MayPutRun, MayPutColumn, MayPutBlocks, MayGrow, MayGrowAtEnd, PutsResidual, PutsRun};
 ghost use Rattle.file_encoding.specs.Coding.{PutsColumn, PutsBlocks, EndsBody, IsBySamples, IsByBlocks};
 
 use block_adaptive::block_writer::BlockWriter;
@@ -47,7 +47,7 @@ impl Encoder {
     #[inline(always)]
     pub fn put(&mut self, z: u32, t: u64, delta: u16, writer: &mut BitWriter) -> Result<(), Fault>
         requires { MayPut self.old z delta }
-        ensures taken { OnOk result (PutsNumber z t delta self.old writer.old.bits self.new writer.new.bits) }
+        ensures taken { OnOk result (PutsResidual z t delta self.old writer.old.bits self.new writer.new.bits) }
         ensures same { OnErr result ((self.new ≡ self.old) × (writer.new.bits ≡ writer.old.bits)) }
         ensures refused { IfErr result (λ e. e ≡ WantOfMemory) }
         ensures memory { IfErr result (λ _. MayGrow self.old) }

@@ -19,7 +19,7 @@ use Rattle.header_bits.specs.Layout.{AreValues, total, spelled}
 use Rattle.header_bits.specs.ImagePart.{image_fields, image_numbers, flag, order_flag, depth_number}
 use Rattle.header_bits.specs.PredictorPart.{predictor_fields, predictor_numbers, exponent_code}
 use Rattle.header_bits.specs.CoderPart.{sample_fields, block_fields, coder_fields, coder_numbers, size_code}
-use Rattle.header_bits.specs.Header.{is_block, image_part_of, predictor_part_of, coder_part_of, is_custom, resolution_of, constant_of, is_each}
+use Rattle.header_bits.specs.Header.{is_block, image_part_of, predictor_part_of, coder_part_of, is_custom, resolution_of, constant_field, is_each}
 use Rattle.header_bits.specs.Lawful.{IsLawful, IsExponent, IsCountStart, IsWeightStart, IsCoder}
 
 -- a flag converted to a number
@@ -47,7 +47,7 @@ resolution_small : (p : Params) (start : WeightStart) → p.omega ≤ 19 → IsW
 resolution_small p Usual le h = lit< tt
 resolution_small p (Table q values) le h = omega (arith, h.0)
 
-constant_small : (p : Params) (start : CountStart) → p.kind.bits ≤ 16 → IsCountStart p start → constant_of start < 16
+constant_small : (p : Params) (start : CountStart) → p.kind.bits ≤ 16 → IsCountStart p start → constant_field start < 16
 constant_small p (Constant k) le h = omega (arith, h)
 constant_small p (Each values) le h = lit< tt
 

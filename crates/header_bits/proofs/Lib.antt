@@ -26,12 +26,3 @@ pub mod Later
 pub mod TableTexts
 pub mod Each
 pub mod Items
-pub mod WordTexts
-pub mod Longer
-pub mod Powers
-pub mod Tops
-pub mod Sums
-pub mod Intervals
-pub mod Zeros
-pub mod Places
-pub mod Fours

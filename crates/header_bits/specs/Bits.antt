@@ -2,12 +2,12 @@
 use Rattle.std.specs.Prelude.{ℕ, zero, suc, ◌+◌, ◌/◌, ◌%◌, ◌^◌, ◌==◌, Bool, true, false, List, [], ◌∷◌, length, if◌then◌else◌}
 use Rattle.std.specs.List.{flat_map}
 
--- the n lowest bits of a number
+-- the n lowest bits of a number, from the highest of them down
 unfoldable pub bits_of : ℕ → ℕ → List Bool
 bits_of zero v = []
 bits_of (suc n) v = (v / 2 ^ n % 2 == 1) ∷ bits_of n v
 
--- a one counts the power of two that it stands for, a zero nothing
+-- the value of a bit at an exponent: 2^exponent for a one, 0 for a zero
 abbrev pub weight_of : Bool → ℕ → ℕ
 weight_of bit exponent = if bit then 2 ^ exponent else 0
 
@@ -25,12 +25,12 @@ unfoldable pub fundamental : ℕ → List Bool
 fundamental zero = true ∷ []
 fundamental (suc m) = false ∷ fundamental m
 
--- what was written, and for how many bits more there is memory
+-- a writer: the bits written so far, and the number of further bits for which there is memory
 pub record Written : Type 0 where
   pub bits : List Bool
   pub room : ℕ
 
--- how many bits there are in all, and those that are left
+-- a reader: the number of bits in all, and the bits that are left
 pub record Unread : Type 0 where
   pub count : ℕ
   pub left : List Bool

@@ -50,7 +50,7 @@ block_tests at i v =
 abbrev pub block_contents : List ℕ → CoderPart
 block_contents v = Block (8 * 2 ^ slice_index v 1) (slice_index v 2 == 1) (slice_index v 3)
 
--- the part of one coder or of the other; `at` is its first bit's position in the file
+-- the part of the block-adaptive coder (true) or of the sample-adaptive one (false); its first bit is at position `at` in the file
 abbrev pub coder_by : Bool → ℕ → ImagePart → Part CoderPart
 coder_by true at i = record { fields = block_fields; tests = block_tests at i; contents = block_contents }
 coder_by false at i = record { fields = sample_fields; tests = sample_tests i; contents = sample_contents }

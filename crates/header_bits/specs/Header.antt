@@ -27,7 +27,7 @@ use Rattle.header_bits.specs.TableParts.{weight_count, weights, has_constants, c
 abbrev pub HeaderContents : Type 0
 HeaderContents = (((ImagePart × PredictorPart) × List ℤ) × CoderPart) × List ℕ
 
--- the first bit after the weight table
+-- the position of the first bit after the weight table
 abbrev pub coder_start : ImagePart → PredictorPart → ℕ
 coder_start i p = 136 + total (weights i p).fields
 
@@ -45,26 +45,29 @@ SpellsParts =
     (λ x. SpellsPart (coder (coder_start x.0.0 x.0.1) x.0.0)))
     (λ x. SpellsPart (constants (coder_start x.0.0.0 x.0.0.1 + 16) x.0.0.0 x.1))
 
+-- the weight initialization: custom with resolution q and these entries, or the default
 abbrev pub start_by : Bool → ℕ → List ℤ → WeightStart
 start_by false q values = Usual
 start_by true q values = Table q values
 
+-- the accumulator initialization: a table of constants, or one constant
 abbrev pub count_by : Bool → ℕ → List ℕ → CountStart
 count_by false constant values = Constant constant
 count_by true constant values = Each values
 
+-- the coder of a coder part, with the constants of the accumulator table, if there is one
 abbrev pub coder_by_part : CoderPart → List ℕ → Coder
 coder_by_part (Sample umax gamma_star gamma_zero constant table) values = coding.Sample umax gamma_star gamma_zero (count_by table constant values)
 coder_by_part (Block size restricted reference) values = coding.Block size restricted reference
 
--- the contents of the parts where the bits from these on hold the tables, if there are any
+-- the contents of all parts; a table, if the header has it, begins at `at_weights` or `at_constants`
 abbrev pub header_contents : ImagePart → PredictorPart → List Bool → CoderPart → List Bool → HeaderContents
 header_contents i p at_weights c at_constants =
     let ws = weights i p in
     let ks = constants (coder_start i p + 16) i c in
     ((((i, p), ws.contents (values ws.fields at_weights)), c), ks.contents (values ks.fields at_constants))
 
--- the tables that are announced are there, with numbers of a few bits each
+-- the bits hold the tables that the parts announce; P is at most 15, and a weight of a table has 1 to 22 bits
 pub record AreThere (i : ImagePart) (p : PredictorPart) (at_weights : List Bool) (c : CoderPart) (at_constants : List Bool) : Type 0 where
   pub previous : p.previous ≤ 15
   pub most : p.resolution ≤ 22
@@ -95,7 +98,7 @@ params_of s =
       coder = coder_by_part s.0.1 s.1;
     }
 
--- reading a header gives its parameters, or the first refusal in the order of the fields
+-- reading a header: its parameters, or the first refusal, part by part and in each in the order of its fields
 unfoldable pub header_at : Reading Params
 header_at = as_at params_of parts_at
 
@@ -134,17 +137,17 @@ predictor_part_of p = record {
   resolution = resolution_of p.start;
 }
 
--- beside a table the constant's field is 15
-abbrev pub constant_of : CountStart → ℕ
-constant_of (Constant constant) = constant
-constant_of (Each values) = 15
+-- the number in the field of the accumulator initialization constant: K, or 15 if there is a table
+abbrev pub constant_field : CountStart → ℕ
+constant_field (Constant constant) = constant
+constant_field (Each values) = 15
 
 abbrev pub is_each : CountStart → Bool
 is_each (Constant constant) = false
 is_each (Each values) = true
 
 abbrev pub coder_part_of : Coder → CoderPart
-coder_part_of (coding.Sample umax gamma_star gamma_zero start) = Sample umax gamma_star gamma_zero (constant_of start) (is_each start)
+coder_part_of (coding.Sample umax gamma_star gamma_zero start) = Sample umax gamma_star gamma_zero (constant_field start) (is_each start)
 coder_part_of (coding.Block size restricted reference) = Block size restricted reference
 
 abbrev pub weight_bits : WeightStart → List Bool
@@ -159,7 +162,7 @@ abbrev pub constant_bits : Coder → List Bool
 constant_bits (coding.Sample umax gamma_star gamma_zero start) = each_bits start
 constant_bits (coding.Block size restricted reference) = []
 
--- the header that a coder writes, with zeros in the place of a depth that isn't there
+-- the header that is written; under band sequential order the field of the depth is 0
 unfoldable pub header_of : Params → List Bool
 header_of p =
     spelled image_fields (image_numbers (image_part_of p)) ++ spelled predictor_fields (predictor_numbers (predictor_part_of p)) ++ weight_bits p.start
@@ -169,29 +172,29 @@ abbrev pub has_each : Coder → Bool
 has_each (coding.Sample umax gamma_star gamma_zero start) = is_each start
 has_each (coding.Block size restricted reference) = false
 
--- a table of weights or of constants is among the parameters
+-- whether the parameters have a table of weights or of constants
 abbrev pub has_table : Params → Bool
 has_table p = is_custom p.start || has_each p.coder
 
--- a table is in the header that the bits begin with
+-- the bits begin with a header that has a table
 abbrev pub BeginsWithTable : List Bool → Type 0
 BeginsWithTable bits = (x : Params × List Bool) × (header_at bits ≡ Ok x) × (has_table x.0 ≡ true)
 
--- why no header is read: the first refusal; or no memory for a table of a header that is all there
+-- why no header is read: the first refusal; or `WantOfMemory`, if the bits begin with a header that has a table
 abbrev pub RefusesHeader : List Bool → Fault → Type 0
 RefusesHeader bits e = (header_at bits ≡ Err e) ⊎ ((e ≡ WantOfMemory) × BeginsWithTable bits)
 
--- what reading a header answers: its parameters and its length in bytes, or why there are none
+-- the result of reading a header: its parameters and its length in bytes, or why none is read
 abbrev pub ReadsHeader : List Bool → Result (Params × ℕ) Fault → Type 0
 ReadsHeader bits (Ok x) = header_at bits ≡ Ok (x.0, drop (8 * x.1) bits)
 ReadsHeader bits (Err e) = RefusesHeader bits e
 
--- what taking a header off the bits answers, which then leaves these: its parameters, or why there are none
+-- the result of taking a header off the bits, after which `left` is left: its parameters, or why none is taken
 abbrev pub TakesHeader : List Bool → Result Params Fault → List Bool → Type 0
 TakesHeader bits (Ok p) left = header_at bits ≡ Ok (p, left)
 TakesHeader bits (Err e) left = RefusesHeader bits e
 
--- the bits begin with no header
+-- the bits don't begin with a header
 abbrev pub BeginsNoHeader : List Bool → Type 0
 BeginsNoHeader bits = (p : Params) (h rest : List Bool) → SpellsHeader p h → bits ≡ h ++ rest → ⊥
 

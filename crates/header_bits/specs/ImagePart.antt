@@ -37,7 +37,7 @@ image_tests v =
     >> reserved_test 80 2 (slice_index v 9)
     >> reserved_test 86 10 (slice_index v 12)
 
--- under band sequential order any bits may stand in the place of the depth
+-- the contents that the numbers stand for; under band sequential order the depth's bits are ignored
 abbrev pub image_contents : List ℕ → ImagePart
 image_contents v = record {
   user = slice_index v 0;
@@ -58,12 +58,12 @@ abbrev pub order_flag : Order → ℕ
 order_flag Bsq = 1
 order_flag (Bi depth) = 0
 
--- under band sequential order the number whose bits are zero
+-- the number in the slot of the depth; under band sequential order 2^16, whose bits are all zero
 abbrev pub depth_number : Order → ℕ
 depth_number Bsq = 65536
 depth_number (Bi depth) = depth
 
--- the numbers that a coder puts into the slots
+-- the numbers that are written in the slots
 abbrev pub image_numbers : ImagePart → List ℕ
 image_numbers i =
     i.user ∷ i.shape.columns ∷ i.shape.rows ∷ i.shape.bands ∷ flag i.kind.signed ∷ 0 ∷ i.kind.bits ∷ order_flag i.order ∷ depth_number i.order ∷ 0 ∷ i.word

@@ -22,24 +22,24 @@ use Rattle.header_bits.specs.declared.params.CountStart.TheVariants.{Constant, E
 use Rattle.header_bits.specs.Parts.{fine}
 use Rattle.header_bits.specs.TableParts.{weight_count, some_above}
 
--- a weight update scaling exponent is -6 to 9
+-- a limit of the weight update scaling exponent, v_min or v_max: -6 to 9
 abbrev pub IsExponent : ℤ → Type 0
 IsExponent v = (negsuc 5 ≤ℤ v) × (v ≤ℤ pos 9)
 
--- a signed number of so many bits
+-- a number that fits in `bits` bits of two's complement
 abbrev pub IsSigned : ℕ → ℤ → Type 0
 IsSigned bits v = (neg_ℤ (pos (2 ^ (bits - 1))) ≤ℤ v) × (v ≤ℤ (pos (2 ^ (bits - 1)) -ℤ pos 1))
 
 abbrev pub IsBlockSize : ℕ → Type 0
 IsBlockSize size = (size ≡ 8) ⊎ ((size ≡ 16) ⊎ ((size ≡ 32) ⊎ (size ≡ 64)))
 
--- the usual start; or a table with one number for each weight
+-- the default initialization; or a table of one entry Λ of Q bits for each weight, with 3 ≤ Q ≤ Ω + 3
 abbrev pub IsWeightStart : Params → WeightStart → Type 0
 IsWeightStart p Usual = Unit {0}
 IsWeightStart p (Table q values) = InRange 3 (p.omega + 3) q × (length values ≡ weight_count p.previous p.reduced p.shape.bands)
     × AllByRecursion (IsSigned q) values
 
--- one constant; or a table with one constant for each band
+-- one constant K for all bands, or a table of one for each band; none is above D - 2
 abbrev pub IsCountStart : Params → CountStart → Type 0
 IsCountStart p (Constant k) = k ≤ p.kind.bits - 2
 IsCountStart p (Each values) = (length values ≡ p.shape.bands) × AllByRecursion (λ v. v ≤ p.kind.bits - 2) values
@@ -85,7 +85,7 @@ order_fault s (Bi depth) = refuse_if (depth == 0) (FieldRange field.Depth (pos 0
 abbrev pub weight_fault : ℕ → ℤ → Test
 weight_fault q v = refuse_if (not (int_le (neg_ℤ (pos (2 ^ (q - 1)))) v && int_le v (pos (2 ^ (q - 1)) -ℤ pos 1))) (FieldRange field.WeightEntry v)
 
--- the first entry that isn't a signed number of so many bits
+-- the refusal of the first entry that doesn't fit in q bits of two's complement
 unfoldable pub entries_fault : ℕ → List ℤ → Test
 entries_fault q [] = fine
 entries_fault q (v ∷ vs) = weight_fault q v >> entries_fault q vs
@@ -140,7 +140,7 @@ predictor_fault p =
     >> refuse_if (not p.column && (p.shape.columns == 1)) (Disagree rule.NeighbourOneColumn)
     >> register_fault p
 
--- the first refusal of parameters
+-- the first refusal of parameters, if they aren't lawful
 unfoldable pub params_fault : Params → Test
 params_fault p =
     in_range_or field.User 0 255 p.user

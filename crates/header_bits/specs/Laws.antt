@@ -19,7 +19,7 @@ HeaderIsLawful = (p : Params) (h : List Bool) → SpellsHeader p h → IsLawful 
 abbrev pub ChosenIsSpelt : Type 0
 ChosenIsSpelt = (p : Params) → IsLawful p → SpellsHeader p (header_of p)
 
--- where a header is refused, other than for its length, the bits begin with none, whatever bits follow
+-- bits that are refused with another fault than `ShortHeader` don't begin with a header, whatever bits follow
 abbrev pub FaultIsNoHeader : Type 0
 FaultIsNoHeader =
     (e : Fault) (bits : List Bool) → header_at bits ≡ Err e → (e ≡ ShortHeader → ⊥)

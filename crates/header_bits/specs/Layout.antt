@@ -1,4 +1,4 @@
--- A part of a header as a row of numbers, each in a slot of so many bits (CCSDS 123.0-B-1, "Header").
+-- A part of a header as a list of numbers, each in a slot of a fixed number of bits (CCSDS 123.0-B-1, "Header").
 use Rattle.std.specs.Prelude.{ℕ, ◌+◌, ◌-◌, ◌%◌, ◌^◌, ◌<◌, ◌≤◌, ◌==◌, Bool, if◌then◌else◌, List, [], ◌∷◌, ◌++◌, take, drop}
 use Rattle.std.specs.List.{AllByRecursion}
 use Rattle.header_bits.specs.declared.layout.Slot.{Slot}
@@ -10,19 +10,19 @@ width (Reserved n) = n
 width (Plain n least) = n
 width (Modulo n) = n
 
--- the number that a slot's bits stand for: themselves, counted from a least one, or the power itself where they are zero
+-- the number for which a slot's bits stand: the bits as a number; that plus the least number; or that, with 2^n for 0
 abbrev pub value_of : Slot → ℕ → ℕ
 value_of (Reserved n) code = code
 value_of (Plain n least) code = least + code
 value_of (Modulo n) code = if code == 0 then 2 ^ n else code
 
--- the bits that stand for a number
+-- the bits that stand for a number, as a number themselves
 abbrev pub code_of : Slot → ℕ → ℕ
 code_of (Reserved n) value = value
 code_of (Plain n least) value = value - least
 code_of (Modulo n) value = value % 2 ^ n
 
--- what a slot can hold
+-- the numbers that a slot can hold
 abbrev pub IsValue : Slot → ℕ → Type 0
 IsValue (Reserved n) value = value < 2 ^ n
 IsValue (Plain n least) value = (least ≤ value) × (value < least + 2 ^ n)
@@ -44,7 +44,7 @@ IsNarrow (Modulo n) = n ≤ 16
 abbrev pub AreNarrow : List Slot → Type 0
 AreNarrow slots = AllByRecursion IsNarrow slots
 
--- how many bits the slots have in all
+-- the number of bits of all slots
 unfoldable pub total : List Slot → ℕ
 total [] = 0
 total (s ∷ ss) = width s + total ss

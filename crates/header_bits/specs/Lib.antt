@@ -1,6 +1,6 @@
 pub mod Bits
 pub mod CoderPart
-pub mod Everything
+pub mod Unfold
 pub mod Header
 pub mod ImagePart
 pub mod Lawful
@@ -10,6 +10,6 @@ pub mod Parts
 pub mod Plain
 pub mod PredictorPart
 pub mod Reading
-pub mod Rows
+pub mod Examples
 pub mod TableParts
 pub mod Windows

@@ -1,4 +1,4 @@
--- The plainest parameters of an image, from which others are made by what differs.
+-- The plainest parameters of an image, from which others are made by naming the fields that differ.
 use Rattle.std.specs.Prelude.{true, pos, negsuc}
 use Rattle.cube_core.specs.declared.order.Order.TheVariants.{Bsq}
 use Rattle.cube_core.specs.Shape.{Sizes}

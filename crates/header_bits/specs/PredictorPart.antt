@@ -30,7 +30,7 @@ predictor_fields =
     ∷ Plain 5 0  -- 14 weight resolution of the table
     ∷ []
 
--- an exponent is six below its code
+-- a limit of the weight update scaling exponent is its code less 6
 abbrev pub exponent_of : ℕ → ℤ
 exponent_of code = pos code -ℤ pos 6
 
@@ -38,7 +38,7 @@ abbrev pub exponent_code : ℤ → ℕ
 exponent_code (pos n) = n + 6
 exponent_code (negsuc n) = 5 - n
 
--- the refusals of the weight start, in order
+-- the refusals of the weight initialization, in order
 abbrev pub start_tests : List ℕ → Test
 start_tests v =
     let custom = slice_index v 12 == 1 in
@@ -50,7 +50,7 @@ start_tests v =
     >> refuse_if (custom && nat_lt resolution 3) (FieldRange field.Resolution (pos resolution))
     >> refuse_if (nat_lt (slice_index v 7 + 3) resolution) (Disagree rule.ResolutionOverOmega)
 
--- the refusals of the register size and the weight update, in order, and then those of the weight start
+-- the refusals of the register size and the weight update, in order, then those of the weight initialization
 abbrev pub number_tests : ImagePart → List ℕ → Test
 number_tests i v =
     refuse_if (nat_lt (slice_index v 6) 32) (FieldRange field.Register (pos (slice_index v 6)))
@@ -87,7 +87,7 @@ predictor_contents v = record {
 unfoldable pub predictor : ImagePart → Part PredictorPart
 predictor i = record { fields = predictor_fields; tests = predictor_tests i; contents = predictor_contents }
 
--- the numbers that a coder puts into the slots
+-- the numbers that are written in the slots
 abbrev pub predictor_numbers : PredictorPart → List ℕ
 predictor_numbers p =
     0 ∷ p.previous ∷ flag p.reduced ∷ 0 ∷ flag p.column ∷ 0 ∷ p.register ∷ p.omega ∷ p.interval_log ∷ exponent_code p.vmin ∷ exponent_code p.vmax ∷ 0

@@ -1,4 +1,4 @@
--- The tables that may stand in a header: weights to start from, and an accumulator constant for each band.
+-- The tables that a header may have: initial weights, and an accumulator initialization constant for each band.
 use Rattle.std.specs.Prelude.{ℕ, zero, suc, ◌+◌, ◌-◌, ◌*◌, ◌%◌, ◌^◌, nat_lt, min, Bool, true, false, if◌then◌else◌, List, [], ◌∷◌, ◌++◌, length, map, take}
 use Rattle.std.specs.Prelude.{replicate, slice_index, ℤ, pos, negsuc, ◌-ℤ◌}
 use Rattle.cube_core.specs.declared.fault.Fault.TheVariants.{Disagree}
@@ -13,23 +13,23 @@ use Rattle.header_bits.specs.declared.coder_part.CoderPart.TheVariants.{Sample, 
 use Rattle.header_bits.specs.Layout.{spelled}
 use Rattle.header_bits.specs.Parts.{Part, fine, reserved_test}
 
--- how many weights the first bands have in all: a directional one for each of three neighbours in full mode, and one for each previous band
+-- the number of weights of the first bands together: for each band one for each previous band and, in full mode, three directional ones
 unfoldable pub weight_count : ℕ → Bool → ℕ → ℕ
 weight_count previous reduced zero = 0
 weight_count previous reduced (suc z) = weight_count previous reduced z + (min z previous + (if reduced then 0 else 3))
 
--- zeros up to a whole byte
+-- the number of zeros that fill `bits` bits up to a whole byte
 abbrev pub fill_of : ℕ → ℕ
 fill_of bits = (8 - bits % 8) % 8
 
--- so many numbers of so many bits each
+-- `count` numbers of `bits` bits each
 abbrev pub number_fields : ℕ → ℕ → List Slot
 number_fields count bits = replicate count (Plain bits 0)
 
 abbrev pub numbers_text : ℕ → List ℕ → List Bool
 numbers_text bits v = spelled (number_fields (length v) bits) v
 
--- the numbers, and fill bits
+-- the numbers of a table, and its fill bits
 abbrev pub table_fields : ℕ → ℕ → List Slot
 table_fields count bits = number_fields count bits ++ Reserved (fill_of (count * bits)) ∷ []
 
@@ -37,7 +37,7 @@ table_fields count bits = number_fields count bits ++ Reserved (fill_of (count *
 abbrev pub fill_test : ℕ → ℕ → ℕ → List ℕ → Test
 fill_test at count bits v = reserved_test (at + count * bits) (fill_of (count * bits)) (slice_index v count)
 
--- the number of a code in two's complement
+-- the number that a code of `bits` bits in two's complement stands for
 abbrev pub signed_of : ℕ → ℕ → ℤ
 signed_of bits code = if nat_lt code (2 ^ (bits - 1)) then pos code else pos code -ℤ pos (2 ^ bits)
 
@@ -45,7 +45,7 @@ abbrev pub signed_code : ℕ → ℤ → ℕ
 signed_code bits (pos n) = n
 signed_code bits (negsuc n) = 2 ^ bits - (n + 1)
 
--- ---- the weight table, where the predictor part announces it
+-- ---- the weight table, if the predictor part announces it
 
 abbrev pub weights_by : Bool → ℕ → ℕ → Part (List ℤ)
 weights_by false count bits = record { fields = []; tests = λ _. fine; contents = λ _. [] }
@@ -58,7 +58,7 @@ weights_by true count bits = record {
 unfoldable pub weights : ImagePart → PredictorPart → Part (List ℤ)
 weights i p = weights_by p.custom (weight_count p.previous p.reduced i.shape.bands) p.resolution
 
--- ---- the accumulator table, where the coder part announces it
+-- ---- the accumulator table, if the coder part announces it
 
 unfoldable pub some_above : ℕ → List ℕ → Bool
 some_above most [] = false

@@ -11,7 +11,7 @@ ghost use Rattle.header_bits.specs.TableParts.{some_above};
 ghost use Rattle.header_bits.specs.Lawful.{IsLawful, in_range_or, exponent_or, order_fault, update_fault, register_fault, predictor_fault, start_fault};
 ghost use Rattle.header_bits.specs.Lawful.{weight_fault, entries_fault, count_fault, block_size_fault, coder_fault, params_fault};
 
-use crate::field::Range;
+use crate::field::ValueRange;
 use crate::fields::{self, GREATEST_EXPONENT, LEAST_EXPONENT, is_block_size};
 use crate::params::{Coder, CountStart, Params, WeightStart};
 use crate::refusal::{disagree_if, out_of_range_if, refuse_if};
@@ -50,7 +50,7 @@ fn first_fault(params: &Params) -> Result<(), Fault>
 }
 
 /// Refuses a number that isn't in its range.
-fn in_range(field: Field, range: Range, number: u32) -> Result<(), Fault>
+fn in_range(field: Field, range: ValueRange, number: u32) -> Result<(), Fault>
     ensures { result ≡ in_range_or field range.least range.most number }
 {
     let value = i64::from(number);

@@ -6,7 +6,7 @@ ghost use Rattle.header_bits.specs.Layout.{AreValues};
 ghost use Rattle.header_bits.specs.Parts.{part_at};
 ghost use Rattle.header_bits.specs.CoderPart.{coder, sample_fields, sample_tests, sample_contents, block_fields, block_tests, block_contents, size_code};
 ghost use Rattle.header_bits.specs.TableParts.{has_constants};
-ghost use Rattle.header_bits.specs.Header.{constant_of, is_each, coder_part_of};
+ghost use Rattle.header_bits.specs.Header.{constant_field, is_each, coder_part_of};
 
 use crate::bit_reader::BitReader;
 use crate::fields::{
@@ -85,7 +85,7 @@ impl CoderPart {
                 umax: *umax,
                 gamma_star: *gamma_star,
                 gamma_zero: *gamma_zero,
-                constant: constant_of(start),
+                constant: constant_field(start),
                 table: matches!(start, CountStart::Each(_)),
             },
             Coder::Block {
@@ -102,8 +102,8 @@ impl CoderPart {
 }
 
 /// Returns the constant for all bands, or 15 where there is a table.
-fn constant_of(start: &CountStart) -> u32
-    ensures { result ≡ constant_of start.now }
+fn constant_field(start: &CountStart) -> u32
+    ensures { result ≡ constant_field start.now }
 {
     match start {
         CountStart::Constant(constant) => *constant,

@@ -4,7 +4,7 @@ use crate::layout::Slot;
 
 /// The numbers from a least to a greatest one.
 #[derive(Clone, Copy)]
-pub struct Range {
+pub struct ValueRange {
     pub least: u32,
     pub most: u32,
 }
@@ -14,7 +14,7 @@ pub struct Range {
 pub struct NumberField {
     /// Its name as an option of `compress`, or in `inspect`.
     pub name: &'static str,
-    pub range: Range,
+    pub range: ValueRange,
     pub(crate) slot: Slot,
     /// How many fields of its part come before it.
     pub(crate) index: usize,
@@ -57,7 +57,7 @@ macro_rules! number {
     ($before:ident, $name:literal, $slot:expr, $least:expr, $most:expr) => {
         NumberField {
             name: $name,
-            range: Range {
+            range: ValueRange {
                 least: $least,
                 most: $most,
             },

@@ -10,7 +10,7 @@ ghost use Rattle.header_bits.specs.Parts.{reserved_test};
 ghost use Rattle.header_bits.specs.Lawful.{IsBlockSize};
 
 use crate::field::{
-    FlagField, NumberField, Range, ReservedField, counted, flag, index, modulo, number, plain,
+    FlagField, NumberField, ReservedField, ValueRange, counted, flag, index, modulo, number, plain,
     reserved, row,
 };
 use crate::layout::{Slot, total_bits};

@@ -1,4 +1,4 @@
-//! A part of a header as a row of numbers, each in a slot of bits.
+//! A part of a header as a list of numbers, each in a slot of bits.
 
 ghost use Rattle.std.specs.Prelude.{◌≡◌, ◌+◌, ◌^◌, ◌<◌, ◌≤◌, ◌++◌, length, drop, IsOk, IfErr, OnOk};
 ghost use Rattle.cube_core.specs.declared.fault.Fault.TheVariants.{WantOfMemory};
@@ -13,7 +13,7 @@ use cube_core::fault::Fault;
 pub(crate) enum Slot {
     /// This many reserved bits, all zero.
     Reserved(u32),
-    /// This many bits, counted from the second number.
+    /// This many bits: the number less the second number, which is the least.
     Plain(u32, u32),
     /// This many bits; zero stands for the power of two that doesn't fit in them.
     Modulo(u32),

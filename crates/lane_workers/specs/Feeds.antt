@@ -1,9 +1,9 @@
--- What a worker keeps to.
+-- What a worker may send.
 use Rattle.std.specs.Prelude.{◌≡◌, ℕ, ◌<◌, Bool, List, length, take, IsTrue, IsFalse}
 use Rattle.band_rings.specs.Lane.{LaneName}
 use Rattle.lane_workers.specs.declared.feed.LaneEnd.{LaneEnd}
 
--- the end is of this lane, and what it sent is a prefix of the list: all of it where the end is whole; else the predictor may be stopped there
+-- the end belongs to this lane, and sent a prefix of the list: the whole list if the end is whole, otherwise less, and the predictor may be stopped there
 pub record Keeps (may_stop : ℕ → ℕ → Bool) (predictor : ℕ) (items : List ℕ) (lane : LaneName) (end : LaneEnd) : Type 0 where
   pub lane_is : end.closed.lane ≡ lane
   pub prefix : end.closed.sent ≡ take (length end.closed.sent) items

@@ -1,4 +1,4 @@
--- What a worker that runs, or one that was joined, stands for.
+-- The view of a worker that runs, or that was joined.
 use Rattle.std.specs.Prelude.{Some, None}
 use Rattle.lane_workers.specs.Stages.{Standing}
 use Rattle.lane_workers.specs.declared.state.State.{State}

@@ -10,10 +10,10 @@ use band_rings::receiver::LaneReceiver;
 use band_rings::settled::{SettledLane, settle};
 use std::marker::Model;
 
-/// A receiver with a small room beside it.
+/// A receiver with a small buffer, its room.
 ///
-/// Contracts see it as a receiver whose numbers are received when they are passed on; those in the room are
-/// known to be there.
+/// Contracts see it as a receiver, for which a number is received when it is passed on; those in the room count as
+/// seen in the lane.
 #[derive(Drop)]
 pub struct RunReceiver {
     receiver: LaneReceiver,
@@ -32,9 +32,9 @@ impl Model for RunReceiver {
     ghost invariant = { λ r. r.receiver.received ≡ before r.receiver.received r.room ++ r.room };
 }
 
-/// A lane whose two ends are in one thread again, and what its receiver still has in its room.
+/// A lane whose two ends are in one thread again, and the numbers that its receiver still has in its room.
 ///
-/// Contracts see it as a settled lane whose numbers are received when they are passed on.
+/// Contracts see it as a settled lane, for which a number is received when it is passed on.
 #[derive(Drop)]
 pub struct SettledRuns {
     lane: SettledLane,

@@ -13,13 +13,12 @@ use std::sync::Wait;
 
 /// A sender of runs: of eight numbers, or of as many as the lane has slots if these are fewer.
 ///
-/// Before a run is tried, the gate is asked for each of its numbers. Where the gate passes all of them and the
-/// lane has no room for the run, the try of each has failed once, and the first is then sent alone. Where the
-/// gate doesn't pass one of them, those before it are sent one by one, the gate being asked again before each
-/// try, and the sender stops there.
+/// The gate is asked about each number of a run before the run is sent. If the lane is too full for the run, that counts as one
+/// failed try of each number, and the first is tried again alone. If the gate refuses a number, those before it are sent singly,
+/// the gate being asked again before each try, and the sender stops there.
 ///
 /// Contracts see its lane, its predictor, its gate, all numbers that it took, whether it takes more, and
-/// whether it has stopped.
+/// whether the gate has stopped it.
 #[derive(Drop)]
 pub struct RunSender<'g, G: Gate> {
     sender: LaneSender,

@@ -17,7 +17,7 @@ use std::sync::Wait;
 use std::sync::atomic::{AtomicBool, Ordering};
 use std::thread::{Promise, PromisedHandle, Scope, Threads};
 
-/// What the end of a worker's thread is promised to satisfy.
+/// The promise of a worker's thread about the end that it returns.
 pub(crate) struct EndOf<F, G> {
     pub(crate) feed: Snapshot<F>,
     pub(crate) gate: Snapshot<G>,

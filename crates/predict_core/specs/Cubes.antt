@@ -1,4 +1,4 @@
--- Cubes of parameters, and that their residuals determine them.
+-- Cubes of the parameters' shape and kind, which their residuals determine.
 use Rattle.std.specs.Prelude.{◌≡◌}
 use Rattle.cube_core.specs.Image.{Image, IsCube}
 use Rattle.header_bits.specs.declared.params.Params.{Params}
@@ -11,6 +11,6 @@ pub record IsCubeOf (p : Params) (c : Image) : Type 0 where
   pub shape : c.shape ≡ p.shape
   pub kind : c.kind ≡ p.kind
 
--- two cubes that have the same residuals are one
+-- cubes with the same residuals are equal
 abbrev pub OneCube : Type 0
 OneCube = (p : Params) (c d : Image) → IsLawful p → IsCubeOf p c → IsCubeOf p d → residuals p c ≡ residuals p d → c ≡ d

@@ -9,7 +9,7 @@ use Rattle.sample_prediction.specs.Predictor.{predictor_of}
 use Rattle.sample_prediction.specs.Prediction.{weight_vector}
 use Rattle.sample_prediction.specs.Residual.{run_residuals}
 
--- what a band's predictor knows: its parameters, the raster index of the place that comes next, the weights there, and the residuals of the piece before it
+-- the state of a band's predictor: its parameters, the raster index t of its next place, the weights W(t), and the mapped residuals of the last piece
 pub record Learner : Type 0 where
   pub predictor : Predictor
   pub shape : Sizes
@@ -19,18 +19,18 @@ pub record Learner : Type 0 where
   pub weights : List ℤ
   pub piece : List ℕ
 
--- the predictor was made for these parameters
+-- the predictor has these parameters
 pub record IsMadeFor (p : Params) (b : Learner) : Type 0 where
   pub predictor : b.predictor ≡ predictor_of p
   pub shape : b.shape ≡ p.shape
   pub kind : b.kind ≡ p.kind
 
--- its weights are those of the image at the place that comes next
+-- the predictor's weights are W(t) of the image at its next place
 pub record Follows (p : Params) (b : Learner) (c : Image) : Type 0 where
   pub made : IsMadeFor p b
   pub weights : b.weights ≡ weight_vector p c b.band b.t
 
--- the same predictor, one place on
+-- the same predictor, one place further on
 pub record MovesOn (old new : Learner) : Type 0 where
   pub predictor : new.predictor ≡ old.predictor
   pub shape : new.shape ≡ old.shape
@@ -38,7 +38,7 @@ pub record MovesOn (old new : Learner) : Type 0 where
   pub band : new.band ≡ old.band
   pub t : new.t ≡ old.t + 1
 
--- the same predictor, n places on
+-- the same predictor, n places further on
 pub record MovesBy (n : ℕ) (old new : Learner) : Type 0 where
   pub predictor : new.predictor ≡ old.predictor
   pub shape : new.shape ≡ old.shape
@@ -46,7 +46,7 @@ pub record MovesBy (n : ℕ) (old new : Learner) : Type 0 where
   pub band : new.band ≡ old.band
   pub t : new.t ≡ old.t + n
 
--- n places from row y, column x on are the next ones of a band, at most 64 and all in that row of an image of its shape and kind
+-- the predictor's next n places, at most 64, are those from row y, column x on, all in that row; the image has the predictor's shape and kind
 pub record IsPieceNext (b : Learner) (c : Image) (y x n : ℕ) : Type 0 where
   pub shape : c.shape ≡ b.shape
   pub kind : c.kind ≡ b.kind
@@ -55,7 +55,7 @@ pub record IsPieceNext (b : Learner) (c : Image) (y x n : ℕ) : Type 0 where
   pub inside : x + n ≤ c.shape.columns
   pub next : b.t ≡ y * c.shape.columns + x
 
--- a band's predictor has gone over its next n places, and holds their residuals
+-- a band's predictor has advanced over n places, and holds their mapped residuals
 pub record HoldsPiece (c : Image) (n : ℕ) (old new : Learner) : Type 0 where
   pub moved : MovesBy n old new
   pub bound : (i : ℕ) → i < n → slice_index_or new.piece i 0 < 2 ^ c.kind.bits

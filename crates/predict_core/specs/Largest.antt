@@ -1,4 +1,4 @@
--- How large the sum can be from which a sample is predicted (CCSDS 123.0-B-1, "Prediction Calculation").
+-- A bound on the number that the register holds (CCSDS 123.0-B-1, "Prediction Calculation").
 use Rattle.std.specs.Prelude.{ℕ, ◌≡◌, ◌+◌, ◌*◌, ◌^◌, ◌<◌, ℤ, pos, ◌+ℤ◌, ◌-ℤ◌, ◌*ℤ◌, unsigned_abs}
 use Rattle.header_bits.specs.declared.params.Params.{Params}
 use Rattle.header_bits.specs.Lawful.{IsLawful}
@@ -9,13 +9,13 @@ use Rattle.sample_prediction.specs.LocalSum.{local_sum}
 use Rattle.sample_prediction.specs.Differences.{difference_vector}
 use Rattle.sample_prediction.specs.Prediction.{inner_product, weight_vector}
 
--- what the register takes at row y, column x: the products of weights and differences, and the local sum less four middles with the weights' fraction
+-- the number that goes into the register at row y, column x: the inner product of W and U, plus 2^Ω·(σ - 4·s_mid)
 abbrev pub register_sum : Params → Image → ℕ → ℕ → ℕ → ℤ
 register_sum p c z y x =
     inner_product (weight_vector p c z (y * c.shape.columns + x)) (difference_vector (predictor_of p) c z y x)
     +ℤ pos (2 ^ p.omega) *ℤ (local_sum (predictor_of p) c z y x -ℤ pos 4 *ℤ smid c.kind)
 
--- before it is wrapped to the register it is below 2^45, the sign aside
+-- its absolute value is below 2^45
 abbrev pub RegisterBound : Type 0
 RegisterBound =
     (p : Params) (c : Image) (z y x : ℕ) → IsLawful p → IsCube c → c.shape ≡ p.shape → c.kind ≡ p.kind

@@ -1,4 +1,4 @@
--- What holds of the fields of a band's predictor.
+-- The invariant of a band's predictor.
 use Rattle.std.specs.Prelude.{◌≡◌, ◌+◌, ◌^◌, ◌<◌, ◌≤◌, ℤ, List}
 use Rattle.cube_core.specs.Shape.{Sizes}
 use Rattle.predict_core.specs.declared.settings.Settings.{Settings}

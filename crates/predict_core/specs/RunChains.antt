@@ -1,4 +1,4 @@
--- The chain of a run whose samples are known: what it needs, and how far it has come.
+-- Predicting a run whose samples are known, place after place: what it needs, and how far it has come.
 use Rattle.std.specs.Prelude.{ℕ, ◌≡◌, ◌+◌, ◌*◌, ◌^◌, ◌<◌, ◌≤◌, Bool, false, ℤ, pos, unsigned_abs, List, take, slice_index_or}
 use Rattle.header_bits.specs.declared.params.Params.{Params}
 use Rattle.cube_core.specs.Image.{Image, IsPlace}
@@ -12,7 +12,7 @@ use Rattle.sample_prediction.specs.Prediction.{weight_vector, scaled_prediction}
 use Rattle.predict_core.specs.Rooms.{IsRoom, quads_of}
 use Rattle.sample_prediction.specs.Chain.{scaled_by_difference, AreWeightsAt}
 
--- a room tells the samples of a run of count places from row y, column x on, and n weights in a register are enough for its band
+-- `sums`, `own` and `quads` are those of `count` places from row y, column x on, n weights are enough for the band, and if `wraps` is false, R ≥ 46
 pub record CanFollow (q n : ℕ) (wraps : Bool) (s : Settings) (c : Image) (y x count : ℕ) (sums own : List ℤ) (quads : List Quad) : Type 0 where
   pub few : n ≤ 18
   pub enough : s.count ≤ n
@@ -25,13 +25,13 @@ pub record CanFollow (q n : ℕ) (wraps : Bool) (s : Settings) (c : Image) (y x 
   pub inside : x + count ≤ c.shape.columns
   pub room : IsRoom s.predictor c s.band y x count s.count sums own quads
 
--- the steps of the weights at row y, column x have this exponent
+-- Ω and D are the band's, and `exponent` is ρ at row y, column x
 pub record AreStepsThere (s : Settings) (c : Image) (omega bits : ℕ) (exponent : ℤ) (y x : ℕ) : Type 0 where
   pub omega_is : omega ≡ s.predictor.omega
   pub bits_are : bits ≡ s.range.bits
   pub exponent_is : exponent ≡ step_exponent s.predictor c.shape.columns c.kind.bits (y * c.shape.columns + x)
 
--- from the weights of the image at place `first` of a run the chain has come to those at place `at`, and it has predicted all differences between
+-- if `begun` are the weights at place `first` of a run, `ws` are those at place `at`, and `parts` gives s̃ at each place between
 pub record IsFollowed (s : Settings) (c : Image) (y x first : ℕ) (begun : List ℤ) (at : ℕ) (ws parts : List ℤ) : Type 0 where
   pub weights : (p : Params) → AreWeightsAt p s.predictor c s.band (y * c.shape.columns + (x + first)) (take s.count begun)
       → take s.count ws ≡ weight_vector p c s.band (y * c.shape.columns + (x + at))
@@ -40,13 +40,13 @@ pub record IsFollowed (s : Settings) (c : Image) (y x first : ℕ) (begun : List
       (local_sum s.predictor c s.band y (x + i))
   pub small : (i : ℕ) → first ≤ i → i < at → unsigned_abs (slice_index_or parts i (pos 0)) ≤ 18 * 2 ^ 20
 
--- the first place of a run from row y, column x on that is not the first of its band
+-- `first` is the first place of a run from row y, column x on that isn't at t = 0: 1 if the run begins the band, else 0
 pub record IsFirstLater (y x first : ℕ) : Type 0 where
   pub most : first ≤ 1
   pub later : 0 < y + (x + first)
   pub start : first ≡ 1 → y + x ≡ 0
 
--- the next n places of a band are of one row, and the weights there are in their range
+-- the next n places of a band, at most 64, are in one row, and the weights there are in their range
 pub record CanPredict (s : Settings) (c : Image) (y x n : ℕ) (ws : List ℤ) : Type 0 where
   pub place : IsPlace c.shape s.band y x
   pub columns : c.shape.columns ≡ s.columns
@@ -56,7 +56,7 @@ pub record CanPredict (s : Settings) (c : Image) (y x n : ℕ) (ws : List ℤ) :
   pub inside : x + n ≤ c.shape.columns
   pub weights_in : AllWithin (2 ^ (s.predictor.omega + 2)) ws
 
--- their residuals, and the weights after them
+-- the mapped residuals of n places from row y, column x on, and the weights after them
 pub record HasPredicted (s : Settings) (c : Image) (y x n : ℕ) (old new : List ℤ) (rs : List ℕ) : Type 0 where
   pub bound : (i : ℕ) → i < n → slice_index_or rs i 0 < 2 ^ c.kind.bits
   pub residuals : (p : Params) → AreWeightsAt p s.predictor c s.band (y * c.shape.columns + x) (take s.count old)

@@ -43,22 +43,22 @@ start_in_range gamma_star gamma_zero k order p q =
 
 -- ---- the next statistics
 
-pub halved_in_range : (gamma_star : ℕ) (s : Statistics) (number : ℕ) → 1 ≤ gamma_star → AreStatistics gamma_star s → number < 65536
+pub halved_in_range : (gamma_star : ℕ) (s : Statistics) (residual : ℕ) → 1 ≤ gamma_star → AreStatistics gamma_star s → residual < 65536
     → 2 ^ gamma_star - 1 ≤ s.counter
-    → AreStatistics gamma_star (record { counter = (s.counter + 1) / 2; accumulator = (s.accumulator + number + 1) / 2 })
-halved_in_range gamma_star s number least h small full =
+    → AreStatistics gamma_star (record { counter = (s.counter + 1) / 2; accumulator = (s.accumulator + residual + 1) / 2 })
+halved_in_range gamma_star s residual least h small full =
     let e : suc (gamma_star - 1) ≡ gamma_star = omega arith in
     let twice : 2 ^ gamma_star ≡ 2 * 2 ^ (gamma_star - 1) = ap (λ k. 2 ^ k) (sym e) ∙ pow-succ' 2 (gamma_star - 1) in
     let some = pow_pos (gamma_star - 1) in
     record { least = omega (arith, h.most); most = omega (arith, h.most); bound = omega (arith, h.most, h.bound) }
 
-pub next_in_range : (gamma_star : ℕ) (s : Statistics) (number : ℕ) → 1 ≤ gamma_star → AreStatistics gamma_star s → number < 65536
-    → AreStatistics gamma_star (next_statistics gamma_star s number)
+pub next_in_range : (gamma_star : ℕ) (s : Statistics) (residual : ℕ) → 1 ≤ gamma_star → AreStatistics gamma_star s → residual < 65536
+    → AreStatistics gamma_star (next_statistics gamma_star s residual)
 unfolding next_statistics
-next_in_range gamma_star s number least h small =
+next_in_range gamma_star s residual least h small =
     elim (cases_lt s.counter (2 ^ gamma_star - 1)) [
       | inl lt ↦ rw (lt-ltb _ _ lt) (record { least = omega arith; most = omega arith; bound = omega (arith, h.bound) })
-      | inr full ↦ rw (le-ltb _ _ full) (halved_in_range gamma_star s number least h small full)
+      | inr full ↦ rw (le-ltb _ _ full) (halved_in_range gamma_star s residual least h small full)
     ]
 
 -- ---- the code parameter

@@ -21,11 +21,11 @@ plain_bits q k j =
     rw e (bits_of-join (q + 1) k 1 (j % 2 ^ k) low
     ∙ rw (bits_of_one q, bits_of-mod k k j (omega arith)) (append_assoc (replicate q false) (true ∷ []) (bits_of k j)))
 
-pub plain_word : (c : Code) (n : ℕ) → n / 2 ^ c.low < c.limit → bits_of (n / 2 ^ c.low + 1 + c.low) (2 ^ c.low + n % 2 ^ c.low) ≡ code_word c n
+pub plain_word : (c : Code) (n : ℕ) → n / 2 ^ c.k < c.limit → bits_of (n / 2 ^ c.k + 1 + c.k) (2 ^ c.k + n % 2 ^ c.k) ≡ code_word c n
 unfolding form_text form_of
 plain_word c n few =
-    rw (lt-ltb (n / 2 ^ c.low) c.limit few)
-    (plain_bits (n / 2 ^ c.low) c.low n ∙ ap (λ (bs : List Bool). replicate (n / 2 ^ c.low) false ++ true ∷ bs) (sym (bits_of-mod c.low c.low n (omega arith))))
+    rw (lt-ltb (n / 2 ^ c.k) c.limit few)
+    (plain_bits (n / 2 ^ c.k) c.k n ∙ ap (λ (bs : List Bool). replicate (n / 2 ^ c.k) false ++ true ∷ bs) (sym (bits_of-mod c.k c.k n (omega arith))))
 
 pub plain_below : (q k j : ℕ) → 2 ^ k + j % 2 ^ k < 2 ^ (q + 1 + k)
 plain_below q k j =
@@ -34,11 +34,11 @@ plain_below q k j =
     let most : 2 ^ suc k ≤ 2 ^ (q + 1 + k) = pow_mono {i = suc k} {j = q + 1 + k} (omega arith) in
     omega arith
 
-pub escape_word : (c : Code) (n : ℕ) → c.limit ≤ n / 2 ^ c.low → n < 2 ^ c.bits → bits_of (c.limit + c.bits) n ≡ code_word c n
+pub escape_word : (c : Code) (n : ℕ) → c.limit ≤ n / 2 ^ c.k → n < 2 ^ c.bits → bits_of (c.limit + c.bits) n ≡ code_word c n
 unfolding form_text form_of
 escape_word c n many lt =
     let none : n / 2 ^ c.bits ≡ 0 = div-eq_of_lt lt in
-    rw (le-ltb (n / 2 ^ c.low) c.limit many) (bits_of-add c.limit c.bits n ∙ rw none (ap (λ (bs : List Bool). bs ++ bits_of c.bits n) (bits_of_zero c.limit)))
+    rw (le-ltb (n / 2 ^ c.k) c.limit many) (bits_of-add c.limit c.bits n ∙ rw none (ap (λ (bs : List Bool). bs ++ bits_of c.bits n) (bits_of_zero c.limit)))
 
 pub escape_below : (limit bits n : ℕ) → n < 2 ^ bits → n < 2 ^ (limit + bits)
 escape_below limit bits n lt =
@@ -76,9 +76,9 @@ same_number n v w x y p q e =
     (a.0 ∙ sym b.0, a.1 ∙ sym b.1)
 
 pub plain_text : (c : Code) (quotient low : ℕ) (x : List Bool)
-    → form_text c (Plain quotient low) ++ x ≡ replicate quotient false ++ true ∷ (bits_of c.low low ++ x)
+    → form_text c (Plain quotient low) ++ x ≡ replicate quotient false ++ true ∷ (bits_of c.k low ++ x)
 unfolding form_text
-plain_text c quotient low x = append_assoc (replicate quotient false) (true ∷ bits_of c.low low) x
+plain_text c quotient low x = append_assoc (replicate quotient false) (true ∷ bits_of c.k low) x
 
 pub escape_text : (c : Code) (n : ℕ) (x : List Bool) → form_text c (Escape n) ++ x ≡ replicate c.limit false ++ (bits_of c.bits n ++ x)
 unfolding form_text
@@ -87,7 +87,7 @@ escape_text c n x = append_assoc (replicate c.limit false) (bits_of c.bits n) x
 pub form_unique : OneForm
 form_unique c (Plain u v) (Plain w z) x y p q e =
     let a = zeros_unique u w _ _ (sym (plain_text c u v x) ∙ e ∙ plain_text c w z y) in
-    let b = same_number c.low v z x y p.1 q.1 a.1 in
+    let b = same_number c.k v z x y p.1 q.1 a.1 in
     (rw (a.0, b.0) refl, b.1)
 form_unique c (Plain u v) (Escape n) x y p q e =
     absurd (one_is_early u c.limit _ _ p.0 (sym (plain_text c u v x) ∙ e ∙ escape_text c n y))
@@ -101,18 +101,18 @@ form_unique c (Escape m) (Escape n) x y p q e =
 pub form_of-fits : (c : Code) (n : ℕ) → n < 2 ^ c.bits → IsForm c (form_of c n)
 unfolding form_of
 form_of-fits c n lt =
-    elim (cases_lt (n / 2 ^ c.low) c.limit) [
-      | inl few ↦ rw (lt-ltb (n / 2 ^ c.low) c.limit few) (few, mod-lt n (pow_pos c.low))
-      | inr many ↦ rw (le-ltb (n / 2 ^ c.low) c.limit many) lt
+    elim (cases_lt (n / 2 ^ c.k) c.limit) [
+      | inl few ↦ rw (lt-ltb (n / 2 ^ c.k) c.limit few) (few, mod-lt n (pow_pos c.k))
+      | inr many ↦ rw (le-ltb (n / 2 ^ c.k) c.limit many) lt
     ]
 
 -- the number of a word
 pub spelt-form_of : (c : Code) (n : ℕ) → spelt c (form_of c n) ≡ n
 unfolding form_of
 spelt-form_of c n =
-    elim (cases_lt (n / 2 ^ c.low) c.limit) [
-      | inl few ↦ rw (lt-ltb (n / 2 ^ c.low) c.limit few) (shr_split n c.low)
-      | inr many ↦ rw (le-ltb (n / 2 ^ c.low) c.limit many) refl
+    elim (cases_lt (n / 2 ^ c.k) c.limit) [
+      | inl few ↦ rw (lt-ltb (n / 2 ^ c.k) c.limit few) (shr_split n c.k)
+      | inr many ↦ rw (le-ltb (n / 2 ^ c.k) c.limit many) refl
     ]
 
 pub word_unique : OneWord

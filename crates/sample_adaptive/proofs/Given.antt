@@ -14,9 +14,9 @@ use Rattle.header_bits.specs.Bits.{Unread}
 use Rattle.header_bits.specs.Reading.{Reads}
 use Rattle.sample_adaptive.specs.Statistics.{CoderSettings}
 use Rattle.sample_adaptive.specs.Words.{code_at}
-use Rattle.sample_adaptive.specs.Body.{band_numbers, words_after, sample_body}
+use Rattle.sample_adaptive.specs.Body.{band_residuals, words_after, sample_body}
 use Rattle.sample_adaptive.specs.Reading.{word_at, words_at, sample_body_at}
-use Rattle.sample_adaptive.specs.Taken.{Counts, HasTaken, AreEach, GetsAt, GetsEach, with_number}
+use Rattle.sample_adaptive.specs.Taken.{CoderState, HasTaken, AreEach, GetsAt, GetsEach, with_residual}
 use Rattle.sample_adaptive.specs.Given.{AreRead, HasGiven, IsNext, GivesMore, places_of}
 use Rattle.sample_adaptive.proofs.Bodies.{AreWords, words_again, words_takes, words_at_append}
 use Rattle.sample_adaptive.specs.Settings.{IsSample, settings}
@@ -25,68 +25,68 @@ use Rattle.sample_adaptive.proofs.Taking.{taken_along}
 
 -- ---- what was given
 
-pub none_given : (p : Params) (v : Counts) → IsSample p.coder → length v.bands ≡ p.shape.bands → HasTaken (settings p) v (λ z. []) → HasGiven p v [] []
-unfolding words_at sample_body_at band_numbers
+pub none_given : (p : Params) (v : CoderState) → IsSample p.coder → length v.bands ≡ p.shape.bands → HasTaken (settings p) v (λ z. []) → HasGiven p v [] []
+unfolding words_at sample_body_at band_residuals
 none_given p v coder bands taken = record { coder = coder; bands = bands; taken = taken; read = λ count left. refl }
 
-words_given : {c : CoderSettings} {places : List Place} {numbers : List ℕ} {bits : List Bool} → AreRead c places numbers bits
-    → AreWords c [] [] places bits (numbers, [])
+words_given : {c : CoderSettings} {places : List Place} {residuals : List ℕ} {bits : List Bool} → AreRead c places residuals bits
+    → AreWords c [] [] places bits (residuals, [])
 unfolding sample_body_at
 words_given h = rw append-nil at (words_takes 0 _ [] [] _ _ _ (h 0 []))
 
 -- where there is a number for each place, the bits are their body
-pub given_whole : (p : Params) (v : Counts) (numbers : List ℕ) (bits : List Bool) → HasGiven p v numbers bits
-    → length numbers ≡ length (places p.shape p.order) → bits ≡ sample_body (settings p) (places p.shape p.order) numbers
+pub given_whole : (p : Params) (v : CoderState) (residuals : List ℕ) (bits : List Bool) → HasGiven p v residuals bits
+    → length residuals ≡ length (places p.shape p.order) → bits ≡ sample_body (settings p) (places p.shape p.order) residuals
 unfolding sample_body
-given_whole p v numbers bits h long =
-    rw (append-nil, take_all (length numbers) (places p.shape p.order) (omega (arith, long))) at (words_given h.read).text
+given_whole p v residuals bits h long =
+    rw (append-nil, take_all (length residuals) (places p.shape p.order) (omega (arith, long))) at (words_given h.read).text
 
 -- ---- what is given after it
 
 -- what is read at so many places
-gives_more : {X : Type 0} (numbers_of : X → List ℕ) (r : Result X Fault) (p : Params) (old new : Counts) (numbers : List ℕ) (bits : List Bool)
-    (unread : Unread) (left : List Bool) (count : ℕ) → HasGiven p old numbers bits → length new.bands ≡ length old.bands
-    → ((x : X) → length (numbers_of x) ≡ count)
-    → (let next = take count (drop (length numbers) (places p.shape p.order)) in
-    Reads numbers_of r left (words_at unread.count (settings p) (places_of p numbers) numbers next unread.left)
-    × IfOk r (λ x. HasTaken (settings p) new (λ z. band_numbers z (places_of p numbers ++ next) (numbers ++ numbers_of x))))
-    → GivesMore numbers_of r p numbers bits unread new left
+gives_more : {X : Type 0} (residuals_of : X → List ℕ) (r : Result X Fault) (p : Params) (old new : CoderState) (residuals : List ℕ) (bits : List Bool)
+    (unread : Unread) (left : List Bool) (count : ℕ) → HasGiven p old residuals bits → length new.bands ≡ length old.bands
+    → ((x : X) → length (residuals_of x) ≡ count)
+    → (let next = take count (drop (length residuals) (places p.shape p.order)) in
+    Reads residuals_of r left (words_at unread.count (settings p) (places_of p residuals) residuals next unread.left)
+    × IfOk r (λ x. HasTaken (settings p) new (λ z. band_residuals z (places_of p residuals ++ next) (residuals ++ residuals_of x))))
+    → GivesMore residuals_of r p residuals bits unread new left
 unfolding sample_body_at
-gives_more numbers_of (Ok x) p old new numbers bits unread left count h kept many did =
+gives_more residuals_of (Ok x) p old new residuals bits unread left count h kept many did =
     let c : CoderSettings = settings p in
-    let gone : List Place = places_of p numbers in
-    let next : List Place = take count (drop (length numbers) (places p.shape p.order)) in
-    let words = words_takes unread.count c gone numbers next unread.left (numbers_of x, left) did.0 in
-    let read : List Bool = words_after c gone numbers next (numbers_of x) in
-    let whole : places_of p (numbers ++ numbers_of x) ≡ gone ++ next =
-    rw (length-append numbers (numbers_of x), many x) (take-add (length numbers) count (places p.shape p.order)) in (
-      rw (settings_bits p) at words.numbers,
+    let gone : List Place = places_of p residuals in
+    let next : List Place = take count (drop (length residuals) (places p.shape p.order)) in
+    let words = words_takes unread.count c gone residuals next unread.left (residuals_of x, left) did.0 in
+    let read : List Bool = words_after c gone residuals next (residuals_of x) in
+    let whole : places_of p (residuals ++ residuals_of x) ≡ gone ++ next =
+    rw (length-append residuals (residuals_of x), many x) (take-add (length residuals) count (places p.shape p.order)) in (
+      rw (settings_bits p) at words.residuals,
       read,
       words.text,
       record {
         coder = h.coder;
         bands = kept ∙ h.bands;
-        taken = subst (λ (ps : List Place). HasTaken c new (λ z. band_numbers z ps (numbers ++ numbers_of x))) (sym whole) did.1;
+        taken = subst (λ (ps : List Place). HasTaken c new (λ z. band_residuals z ps (residuals ++ residuals_of x))) (sym whole) did.1;
         read = λ other rest. rw (
           whole,
           append_assoc bits read rest,
           words_at_append other c [] [] gone next (bits ++ (read ++ rest)),
           h.read other (read ++ rest),
-          words_again other c gone numbers next (numbers_of x) rest words.count words.numbers,
+          words_again other c gone residuals next (residuals_of x) rest words.count words.residuals,
         ) refl;
       },
     )
-gives_more numbers_of (Err fault) p old new numbers bits unread left count h kept many did =
+gives_more residuals_of (Err fault) p old new residuals bits unread left count h kept many did =
     let c : CoderSettings = settings p in
-    let gone : List Place = places_of p numbers in
-    let later : List Place = drop (length numbers) (places p.shape p.order) in
+    let gone : List Place = places_of p residuals in
+    let later : List Place = drop (length residuals) (places p.shape p.order) in
     let bad : words_at unread.count c [] [] (gone ++ (take count later ++ drop count later)) (bits ++ unread.left) ≡ Err fault = rw (
       words_at_append unread.count c [] [] gone (take count later ++ drop count later) (bits ++ unread.left),
       h.read unread.count unread.left,
-      words_at_append unread.count c gone numbers (take count later) (drop count later) unread.left,
+      words_at_append unread.count c gone residuals (take count later) (drop count later) unread.left,
       did.0,
     ) refl in
-    rw (take-append-drop count later, take-append-drop (length numbers) (places p.shape p.order)) at bad
+    rw (take-append-drop count later, take-append-drop (length residuals) (places p.shape p.order)) at bad
 
 -- the place of the next number comes first after those of the numbers before it
 next_first : (places : List Place) (n : ℕ) (p : Place) (count : ℕ) → slice_get places n ≡ Some p
@@ -96,44 +96,44 @@ next_first places n p count at =
 
 -- numbers each of which is the next one, after those between
 module _ (p : Params) (n count : ℕ) (zs ts : ℕ → ℕ)
-    (next : (i : ℕ) (numbers : List ℕ) → i < count → length numbers ≡ n + i → IsNext p numbers (zs i) (ts i)) where
-  are_each : (k i : ℕ) (numbers : List ℕ) → i + k ≡ count → length numbers ≡ n + i
-      → (let later = take k (drop (length numbers) (places p.shape p.order)) in
-      AreEach zs ts i (places_of p numbers) numbers later × (k ≡ length later))
-  are_each zero i numbers all long = (tt, refl)
-  are_each (suc k) i numbers all long =
-      let q = next i numbers (omega (arith, all)) long in
-      let more : (number : ℕ) → length (numbers ++ number ∷ []) ≡ length numbers + 1 = λ number. length-append numbers (number ∷ []) in
-      let others = λ (number : ℕ). are_each k (i + 1) (numbers ++ number ∷ []) (omega (arith, all)) (omega (arith, more number, long)) in
+    (next : (i : ℕ) (residuals : List ℕ) → i < count → length residuals ≡ n + i → IsNext p residuals (zs i) (ts i)) where
+  are_each : (k i : ℕ) (residuals : List ℕ) → i + k ≡ count → length residuals ≡ n + i
+      → (let later = take k (drop (length residuals) (places p.shape p.order)) in
+      AreEach zs ts i (places_of p residuals) residuals later × (k ≡ length later))
+  are_each zero i residuals all long = (tt, refl)
+  are_each (suc k) i residuals all long =
+      let q = next i residuals (omega (arith, all)) long in
+      let more : (residual : ℕ) → length (residuals ++ residual ∷ []) ≡ length residuals + 1 = λ residual. length-append residuals (residual ∷ []) in
+      let others = λ (residual : ℕ). are_each k (i + 1) (residuals ++ residual ∷ []) (omega (arith, all)) (omega (arith, more residual, long)) in
       rw (next_first (places p.shape p.order) _ q.0 k q.1)
-      ((q.2, q.3, λ number. rw (more number, (take_next (places p.shape p.order) _ q.0 q.1).1) at (others number).0), ap suc (rw (more 0) at (others 0).1))
+      ((q.2, q.3, λ residual. rw (more residual, (take_next (places p.shape p.order) _ q.0 q.1).1) at (others residual).0), ap suc (rw (more 0) at (others 0).1))
 
-pub each_given : (r : Result (Unit {0}) Fault) (zs ts : ℕ → ℕ) (index : ℕ) (p : Params) (old new : Counts) (numbers list : List ℕ) (bits : List Bool)
+pub each_given : (r : Result (Unit {0}) Fault) (zs ts : ℕ → ℕ) (index : ℕ) (p : Params) (old new : CoderState) (residuals list : List ℕ) (bits : List Bool)
     (unread : Unread) (left : List Bool) → GetsEach zs ts 0 index r old unread new left list → length new.bands ≡ length old.bands
-    → HasGiven p old numbers bits → index ≡ length numbers
-    → ((i : ℕ) (before : List ℕ) → i < length list → length before ≡ length numbers + i → IsNext p before (zs i) (ts i))
-    → GivesMore (λ _. list) r p numbers bits unread new left
-each_given r zs ts index p old new numbers list bits unread left gets kept h at next =
-    let each = are_each p (length numbers) (length list) zs ts next (length list) 0 numbers (omega arith) (omega arith) in
-    gives_more (λ _. list) r p old new numbers bits unread left (length list) h kept (λ _. refl)
-    (gets (settings p) _ _ numbers (words_given h.read).count each.1 each.0 h.taken at)
+    → HasGiven p old residuals bits → index ≡ length residuals
+    → ((i : ℕ) (before : List ℕ) → i < length list → length before ≡ length residuals + i → IsNext p before (zs i) (ts i))
+    → GivesMore (λ _. list) r p residuals bits unread new left
+each_given r zs ts index p old new residuals list bits unread left gets kept h at next =
+    let each = are_each p (length residuals) (length list) zs ts next (length list) 0 residuals (omega arith) (omega arith) in
+    gives_more (λ _. list) r p old new residuals bits unread left (length list) h kept (λ _. refl)
+    (gets (settings p) _ _ residuals (words_given h.read).count each.1 each.0 h.taken at)
 
-pub next_given : (r : Result ℕ Fault) (z t index : ℕ) (p : Params) (old new : Counts) (numbers : List ℕ) (bits : List Bool) (unread : Unread)
-    (left : List Bool) → GetsAt z t index r old unread new left → length new.bands ≡ length old.bands → HasGiven p old numbers bits
-    → index ≡ length numbers → IsNext p numbers z t → GivesMore (λ number. number ∷ []) r p numbers bits unread new left
+pub next_given : (r : Result ℕ Fault) (z t index : ℕ) (p : Params) (old new : CoderState) (residuals : List ℕ) (bits : List Bool) (unread : Unread)
+    (left : List Bool) → GetsAt z t index r old unread new left → length new.bands ≡ length old.bands → HasGiven p old residuals bits
+    → index ≡ length residuals → IsNext p residuals z t → GivesMore (λ residual. residual ∷ []) r p residuals bits unread new left
 unfolding words_at
-next_given r z t index p old new numbers bits unread left gets kept h at next =
-    gives_more (λ number. number ∷ []) r p old new numbers bits unread left 1 h kept (λ _. refl)
+next_given r z t index p old new residuals bits unread left gets kept h at next =
+    gives_more (λ residual. residual ∷ []) r p old new residuals bits unread left 1 h kept (λ _. refl)
     (rw (next_first (places p.shape p.order) _ next.0 0 next.1) (one r ((rw at at gets) (settings p) _ h.taken next.3)))
   where
     gone : List Place
-    gone = places_of p numbers
+    gone = places_of p residuals
 
     one : (r : Result ℕ Fault)
-        → Reads (λ number. number) r left (word_at unread.count (length numbers) (code_at (settings p) z (band_numbers z gone numbers)) unread.left)
-        × IfOk r (λ number. HasTaken (settings p) new (with_number (λ z. band_numbers z gone numbers) z number))
-        → Reads (λ number. number ∷ []) r left (words_at unread.count (settings p) gone numbers (next.0 ∷ []) unread.left)
-        × IfOk r (λ number. HasTaken (settings p) new (λ z. band_numbers z (gone ++ next.0 ∷ []) (numbers ++ number ∷ [])))
-    one (Ok number) did =
-        (rw (next.2, did.0) refl, taken_along (settings p) new gone numbers next.0 number (words_given h.read).count (rw next.2 did.1))
+        → Reads (λ residual. residual) r left (word_at unread.count (length residuals) (code_at (settings p) z (band_residuals z gone residuals)) unread.left)
+        × IfOk r (λ residual. HasTaken (settings p) new (with_residual (λ z. band_residuals z gone residuals) z residual))
+        → Reads (λ residual. residual ∷ []) r left (words_at unread.count (settings p) gone residuals (next.0 ∷ []) unread.left)
+        × IfOk r (λ residual. HasTaken (settings p) new (λ z. band_residuals z (gone ++ next.0 ∷ []) (residuals ++ residual ∷ [])))
+    one (Ok residual) did =
+        (rw (next.2, did.0) refl, taken_along (settings p) new gone residuals next.0 residual (words_given h.read).count (rw next.2 did.1))
     one (Err fault) did = (rw (next.2, did.0) refl, tt)

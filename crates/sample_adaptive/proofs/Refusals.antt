@@ -20,8 +20,8 @@ use Rattle.sample_adaptive.proofs.Forms.{plain_text, escape_text, form_of-fits}
 -- what reading a form answers
 abbrev pub form_read : ℕ → Code → Form → List Bool → Result (ℕ × List Bool) Fault
 form_read index c (Plain quotient low) rest =
-    cond (ltb (quotient * 2 ^ c.low + low) (2 ^ c.bits)) (done (quotient * 2 ^ c.low + low, rest)) (Err (BadCode index))
-form_read index c (Escape number) rest = cond (ltb (number / 2 ^ c.low) c.limit) (Err (BadCode index)) (done (number, rest))
+    cond (ltb (quotient * 2 ^ c.k + low) (2 ^ c.bits)) (done (quotient * 2 ^ c.k + low, rest)) (Err (BadCode index))
+form_read index c (Escape residual) rest = cond (ltb (residual / 2 ^ c.k) c.limit) (Err (BadCode index)) (done (residual, rest))
 
 front : (m : ℕ) (x : List Bool) → replicate m false ++ true ∷ x ≡ fundamental m ++ x
 front m x = sym (append_assoc (replicate m false) (true ∷ []) x) ∙ ap (λ (bs : List Bool). bs ++ x) (sym (fundamental_is m))
@@ -32,26 +32,26 @@ unfolding word_at plain_at escape_at
 form_again count index c (Plain quotient low) rest h =
     rw (
       plain_text c quotient low rest,
-      front quotient (bits_of c.low low ++ rest),
-      zeros_again count quotient c.limit (bits_of c.low low ++ rest) h.0,
+      front quotient (bits_of c.k low ++ rest),
+      zeros_again count quotient c.limit (bits_of c.k low ++ rest) h.0,
       lt-ltb quotient c.limit h.0,
-      number_again count c.low low rest h.1,
+      number_again count c.k low rest h.1,
     ) refl
-form_again count index c (Escape number) rest h =
+form_again count index c (Escape residual) rest h =
     rw (
-      escape_text c number rest,
-      zeros_full count c.limit (bits_of c.bits number ++ rest),
+      escape_text c residual rest,
+      zeros_full count c.limit (bits_of c.bits residual ++ rest),
       le-ltb c.limit c.limit (omega arith),
-      number_again count c.bits number rest h,
+      number_again count c.bits residual rest h,
     ) refl
 
 -- a number's own form is read as the number
 form_of-read : (index : ℕ) (c : Code) (n : ℕ) (rest : List Bool) → n < 2 ^ c.bits → form_read index c (form_of c n) rest ≡ Ok (n, rest)
 unfolding form_of
 form_of-read index c n rest lt =
-    elim (cases_lt (n / 2 ^ c.low) c.limit) [
-      | inl few ↦ rw (lt-ltb (n / 2 ^ c.low) c.limit few, shr_split n c.low, lt-ltb n (2 ^ c.bits) lt) refl
-      | inr many ↦ rw (le-ltb (n / 2 ^ c.low) c.limit many, le-ltb (n / 2 ^ c.low) c.limit many) refl
+    elim (cases_lt (n / 2 ^ c.k) c.limit) [
+      | inl few ↦ rw (lt-ltb (n / 2 ^ c.k) c.limit few, shr_split n c.k, lt-ltb n (2 ^ c.bits) lt) refl
+      | inr many ↦ rw (le-ltb (n / 2 ^ c.k) c.limit many, le-ltb (n / 2 ^ c.k) c.limit many) refl
     ]
 
 pub word_again : (count index : ℕ) (c : Code) (n : ℕ) (rest : List Bool) → n < 2 ^ c.bits → word_at count index c (code_word c n ++ rest) ≡ Ok (n, rest)
@@ -74,23 +74,23 @@ plain_takes : (count index : ℕ) (c : Code) (quotient : ℕ) (bits after : List
     → bits ≡ fundamental quotient ++ after → plain_at count index c quotient after ≡ Ok x → IsWord c bits x
 unfolding plain_at form_of
 plain_takes count index c quotient bits after x few text e =
-    let a = bind_ok (number_at count c.low after)
-    (λ low. cond (ltb (quotient * 2 ^ c.low + low.0) (2 ^ c.bits)) (Ok (quotient * 2 ^ c.low + low.0, low.1)) (Err (BadCode index))) x e in
-    let g = pass_ok (ltb (quotient * 2 ^ c.low + a.0.0) (2 ^ c.bits)) (BadCode index) (quotient * 2 ^ c.low + a.0.0, a.0.1) x a.2 in
-    let low = number_takes count c.low after a.0 a.1 in
+    let a = bind_ok (number_at count c.k after)
+    (λ low. cond (ltb (quotient * 2 ^ c.k + low.0) (2 ^ c.bits)) (Ok (quotient * 2 ^ c.k + low.0, low.1)) (Err (BadCode index))) x e in
+    let g = pass_ok (ltb (quotient * 2 ^ c.k + a.0.0) (2 ^ c.bits)) (BadCode index) (quotient * 2 ^ c.k + a.0.0, a.0.1) x a.2 in
+    let low = number_takes count c.k after a.0 a.1 in
     let whole : bits ≡ form_text c (Plain quotient a.0.0) ++ a.0.1 = rw (plain_text c quotient a.0.0 a.0.1, front quotient _, ← low.0) text in
     subst (IsWord c bits) g.1
-    (ltb-true _ _ g.0, rw (div-mul-add quotient (2 ^ c.low) a.0.0 low.1, lt-ltb quotient c.limit few, mod-mul-add quotient (2 ^ c.low) a.0.0 low.1) whole)
+    (ltb-true _ _ g.0, rw (div-mul-add quotient (2 ^ c.k) a.0.0 low.1, lt-ltb quotient c.limit few, mod-mul-add quotient (2 ^ c.k) a.0.0 low.1) whole)
 
 escape_takes : (count index : ℕ) (c : Code) (bits after : List Bool) (x : ℕ × List Bool) → bits ≡ replicate c.limit false ++ after
     → escape_at count index c after ≡ Ok x → IsWord c bits x
 unfolding escape_at form_of
 escape_takes count index c bits after x text e =
-    let a = bind_ok (number_at count c.bits after) (λ number. cond (ltb (number.0 / 2 ^ c.low) c.limit) (Err (BadCode index)) (Ok (number.0, number.1))) x e in
-    let g = stop_ok (ltb (a.0.0 / 2 ^ c.low) c.limit) (BadCode index) (a.0.0, a.0.1) x a.2 in
-    let number = number_takes count c.bits after a.0 a.1 in
-    let whole : bits ≡ form_text c (Escape a.0.0) ++ a.0.1 = rw (escape_text c a.0.0 a.0.1, ← number.0) text in
-    subst (IsWord c bits) g.1 (number.1, rw g.0 whole)
+    let a = bind_ok (number_at count c.bits after) (λ residual. cond (ltb (residual.0 / 2 ^ c.k) c.limit) (Err (BadCode index)) (Ok (residual.0, residual.1))) x e in
+    let g = stop_ok (ltb (a.0.0 / 2 ^ c.k) c.limit) (BadCode index) (a.0.0, a.0.1) x a.2 in
+    let residual = number_takes count c.bits after a.0 a.1 in
+    let whole : bits ≡ form_text c (Escape a.0.0) ++ a.0.1 = rw (escape_text c a.0.0 a.0.1, ← residual.0) text in
+    subst (IsWord c bits) g.1 (residual.1, rw g.0 whole)
 
 pub word_takes : (count index : ℕ) (c : Code) (bits : List Bool) (x : ℕ × List Bool) → word_at count index c bits ≡ Ok x → IsWord c bits x
 unfolding word_at
@@ -116,11 +116,11 @@ not_truncated_either count index false x e = cc
 
 pub truncated_is_no_form : TruncatedIsNoForm
 truncated_is_no_form count index c bits e (Plain quotient low) rest h =
-    not_truncated count index (ltb (quotient * 2 ^ c.low + low) (2 ^ c.bits)) (quotient * 2 ^ c.low + low, rest)
+    not_truncated count index (ltb (quotient * 2 ^ c.k + low) (2 ^ c.bits)) (quotient * 2 ^ c.k + low, rest)
     (sym (form_again count index c (Plain quotient low) rest h.form) ∙ ap (λ (bs : List Bool). word_at count index c bs) (sym h.text) ∙ e)
-truncated_is_no_form count index c bits e (Escape number) rest h =
-    not_truncated_either count index (ltb (number / 2 ^ c.low) c.limit) (number, rest)
-    (sym (form_again count index c (Escape number) rest h.form) ∙ ap (λ (bs : List Bool). word_at count index c bs) (sym h.text) ∙ e)
+truncated_is_no_form count index c bits e (Escape residual) rest h =
+    not_truncated_either count index (ltb (residual / 2 ^ c.k) c.limit) (residual, rest)
+    (sym (form_again count index c (Escape residual) rest h.form) ∙ ap (λ (bs : List Bool). word_at count index c bs) (sym h.text) ∙ e)
 
 clash : (count index : ℕ) → Truncated count ≡ BadCode index → ⊥
 clash count index e = cc
@@ -142,11 +142,11 @@ plain_stands : (count index : ℕ) (c : Code) (quotient : ℕ) (bits after : Lis
     → plain_at count index c quotient after ≡ Err (BadCode index) → SomeForm c bits
 unfolding plain_at
 plain_stands count index c quotient bits after few text e =
-    elim (bind_err (number_at count c.low after)
-    (λ low. cond (ltb (quotient * 2 ^ c.low + low.0) (2 ^ c.bits)) (Ok (quotient * 2 ^ c.low + low.0, low.1)) (Err (BadCode index))) (BadCode index) e) [
-      | inl short ↦ absurd (clash count index (number_fault count c.low after (BadCode index) short))
+    elim (bind_err (number_at count c.k after)
+    (λ low. cond (ltb (quotient * 2 ^ c.k + low.0) (2 ^ c.bits)) (Ok (quotient * 2 ^ c.k + low.0, low.1)) (Err (BadCode index))) (BadCode index) e) [
+      | inl short ↦ absurd (clash count index (number_fault count c.k after (BadCode index) short))
       | inr a ↦
-          (let low = number_takes count c.low after a.0 a.1 in
+          (let low = number_takes count c.k after a.0 a.1 in
           (Plain quotient a.0.0, a.0.1, record { form = (few, low.1); text = rw (plain_text c quotient a.0.0 a.0.1, front quotient _, ← low.0) text }))
     ]
 
@@ -155,11 +155,11 @@ escape_stands : (count index : ℕ) (c : Code) (bits after : List Bool) → bits
 unfolding escape_at
 escape_stands count index c bits after text e =
     elim (bind_err (number_at count c.bits after)
-    (λ number. cond (ltb (number.0 / 2 ^ c.low) c.limit) (Err (BadCode index)) (Ok (number.0, number.1))) (BadCode index) e) [
+    (λ residual. cond (ltb (residual.0 / 2 ^ c.k) c.limit) (Err (BadCode index)) (Ok (residual.0, residual.1))) (BadCode index) e) [
       | inl short ↦ absurd (clash count index (number_fault count c.bits after (BadCode index) short))
       | inr a ↦
-          (let number = number_takes count c.bits after a.0 a.1 in
-          (Escape a.0.0, a.0.1, record { form = number.1; text = rw (escape_text c a.0.0 a.0.1, ← number.0) text }))
+          (let residual = number_takes count c.bits after a.0 a.1 in
+          (Escape a.0.0, a.0.1, record { form = residual.1; text = rw (escape_text c a.0.0 a.0.1, ← residual.0) text }))
     ]
 
 form_stands : (count index : ℕ) (c : Code) (bits : List Bool) → word_at count index c bits ≡ Err (BadCode index) → SomeForm c bits

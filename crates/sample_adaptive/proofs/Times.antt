@@ -15,16 +15,16 @@ use Rattle.cube_core.proofs.Keys.{index_of_item, order_is_by_key}
 use Rattle.cube_core.proofs.Lists.{take_next}
 use Rattle.cube_core.proofs.Orders.{StandsAt, item_from_index, length-places}
 use Rattle.cube_core.proofs.Raws.{place_of}
-use Rattle.sample_adaptive.specs.Body.{band_numbers}
+use Rattle.sample_adaptive.specs.Body.{band_residuals}
 use Rattle.sample_adaptive.proofs.Bodies.{band_push}
 
 -- how many numbers band z has, of so many along the order
 abbrev count_at : Sizes → Order → ℕ → ℕ → List ℕ → ℕ
-count_at s o z i ns = length (band_numbers z (take i (places s o)) (take i ns))
+count_at s o z i ns = length (band_residuals z (take i (places s o)) (take i ns))
 
 -- a band has come as far along the walk as it has numbers
 count_come : (s : Sizes) (o : Order) (z i : ℕ) (ns : List ℕ) → IsOrder s o → i ≤ sample_count s → i ≤ length ns → HasCome s o z i (count_at s o z i ns)
-unfolding band_numbers
+unfolding band_residuals
 count_come s o z zero ns lawful le few = come_start s o z
 count_come s o z (suc i) ns lawful le few =
     let next = place_of s o i lawful (omega (arith, le)) in
@@ -41,10 +41,10 @@ count_come s o z (suc i) ns lawful le few =
 
 -- the number of a place is the one of its band that tells how many places the band has before it
 pub number_of_place : (s : Sizes) (o : Order) (ns : List ℕ) (q : Place) → IsOrder s o → slice_get (places s o) (length ns) ≡ Some q
-    → length (band_numbers q.z (take (length ns) (places s o)) ns) ≡ time_of s q
+    → length (band_residuals q.z (take (length ns) (places s o)) ns) ≡ time_of s q
 number_of_place s o ns q lawful at =
     let place = (order_is_by_key s o lawful).only (length ns) q at in
     let stands : StandsAt s o q (length ns) = record { place = place; index = index_of_item s o q (length ns) lawful at } in
     let few : length ns < sample_count s = omega (arith, slice_get_within (places s o) (length ns) q at, length-places s o lawful) in
     let come = rw (take_all (length ns) ns (omega arith)) at (count_come s o q.z (length ns) ns lawful (omega (arith, few)) (omega arith)) in
-    sym (come_here s o q.z (length ns) (length (band_numbers q.z (take (length ns) (places s o)) ns)) q lawful come stands refl)
+    sym (come_here s o q.z (length ns) (length (band_residuals q.z (take (length ns) (places s o)) ns)) q lawful come stands refl)

@@ -2,85 +2,85 @@
 use Rattle.std.proofs.Common.{◌≡◌, ◌<◌, ◌≤◌, ◌++◌, ℕ, List, length, take, get_or, set, refl, sym, ap, subst, ◌∙◌, inl, inr, arith}
 use Rattle.std.proofs.lemmas.Bool.{cases_eq}
 use Rattle.std.proofs.lemmas.List.{get_or-map, get_or_default, get_or-set_same, get_or-set_other, length-map, length-set, map-set, set-get_or, take_at}
-use Rattle.sample_adaptive.specs.declared.run_codes.RunCodes.{RunCodes}
+use Rattle.sample_adaptive.specs.declared.code_settings.CodeSettings.{CodeSettings}
 use Rattle.sample_adaptive.specs.declared.statistics.Statistics.{Statistics}
-use Rattle.sample_adaptive.specs.declared.tracked.Tracked.{Tracked}
-use Rattle.sample_adaptive.specs.Taken.{Counts, HasSettings, of_band, no_statistics, with_band}
-use Rattle.sample_adaptive.specs.Tracked.{IsTracked, AreTracked, kept_of, no_tracked, statistics_of}
+use Rattle.sample_adaptive.specs.declared.band_state.BandState.{BandState}
+use Rattle.sample_adaptive.specs.Taken.{CoderState, HasSettings, of_band, no_statistics, with_band}
+use Rattle.sample_adaptive.specs.BandStates.{IsBandState, AreBandStates, state_of, no_state, statistics_of}
 
-pub statistics_count : (bands : List Tracked) → length (statistics_of bands) ≡ length bands
-statistics_count bands = length-map bands (λ (t : Tracked). t.statistics)
+pub statistics_count : (bands : List BandState) → length (statistics_of bands) ≡ length bands
+statistics_count bands = length-map bands (λ (t : BandState). t.statistics)
 
-pub statistics_at : (bands : List Tracked) (z : ℕ) → z < length bands → of_band (statistics_of bands) z ≡ (kept_of bands z).statistics
-statistics_at bands z lt = get_or-map (λ (t : Tracked). t.statistics) bands z no_tracked no_statistics lt
+pub statistics_at : (bands : List BandState) (z : ℕ) → z < length bands → of_band (statistics_of bands) z ≡ (state_of bands z).statistics
+statistics_at bands z lt = get_or-map (λ (t : BandState). t.statistics) bands z no_state no_statistics lt
 
-pub statistics_set : (bands : List Tracked) (z : ℕ) (t : Tracked) → statistics_of (set bands z t) ≡ set (statistics_of bands) z t.statistics
-statistics_set bands z t = map-set (λ (t : Tracked). t.statistics) bands z t
+pub statistics_set : (bands : List BandState) (z : ℕ) (t : BandState) → statistics_of (set bands z t) ≡ set (statistics_of bands) z t.statistics
+statistics_set bands z t = map-set (λ (t : BandState). t.statistics) bands z t
 
 -- bands whose statistics a coder has, and what is kept of one of them anew
-pub column_set : (v : Counts) (bands : List Tracked) {z b : ℕ} (t : Tracked) → z ≡ b
+pub column_set : (v : CoderState) (bands : List BandState) {z b : ℕ} (t : BandState) → z ≡ b
     → with_band (record v { bands = statistics_of bands }) b t.statistics ≡ record v { bands = statistics_of (set bands z t) }
 column_set v bands {b = b} t same = rw (same, statistics_set bands b t) refl
 
 -- what is kept of one band anew, where its statistics are the same
-pub same_statistics : (bands : List Tracked) (at : ℕ) (t : Tracked) → t.statistics ≡ (kept_of bands at).statistics
+pub same_statistics : (bands : List BandState) (at : ℕ) (t : BandState) → t.statistics ≡ (state_of bands at).statistics
     → statistics_of (set bands at t) ≡ statistics_of bands
-same_statistics bands at t same = rw (statistics_set bands at t, same, ← statistics_set bands at (kept_of bands at), set-get_or) refl
+same_statistics bands at t same = rw (statistics_set bands at t, same, ← statistics_set bands at (state_of bands at), set-get_or) refl
 
 -- what is kept of one band anew
-pub tracked_set : (run : RunCodes) (bands : List Tracked) (at : ℕ) (t : Tracked) → at < length bands → IsTracked run t → AreTracked run bands
-    → AreTracked run (set bands at t)
-tracked_set run bands at t inside here was b lt =
+pub state_set : (settings : CodeSettings) (bands : List BandState) (at : ℕ) (t : BandState) → at < length bands → IsBandState settings t → AreBandStates settings bands
+    → AreBandStates settings (set bands at t)
+state_set settings bands at t inside here was b lt =
     elim (cases_eq b at) [
-      | inl e ↦ subst (λ (k : ℕ). IsTracked run (kept_of (set bands at t) k)) (sym e)
-          (subst (IsTracked run) (sym (get_or-set_same bands at t no_tracked inside)) here)
-      | inr other ↦ subst (IsTracked run) (sym (get_or-set_other bands at b t no_tracked other)) (was b (omega (arith, lt, length-set bands at t)))
+      | inl e ↦ subst (λ (k : ℕ). IsBandState settings (state_of (set bands at t) k)) (sym e)
+          (subst (IsBandState settings) (sym (get_or-set_same bands at t no_state inside)) here)
+      | inr other ↦ subst (IsBandState settings) (sym (get_or-set_other bands at b t no_state other)) (was b (omega (arith, lt, length-set bands at t)))
     ]
 
 -- other statistics leave the settings
-pub settings_stay : {v : Counts} {bands : List Statistics} {bits umax size : ℕ} → HasSettings v bits umax size
+pub settings_stay : {v : CoderState} {bands : List Statistics} {bits umax size : ℕ} → HasSettings v bits umax size
     → HasSettings (record v { bands = bands }) bits umax size
 settings_stay h = record { bits_are = h.bits_are; umax_is = h.umax_is; size_is = h.size_is }
 
 -- ---- a band of a coder that shows the statistics of what it keeps
 
-pub settings_seen : (v w : Counts) → w ≡ v → HasSettings v w.bits w.umax w.gamma_star
+pub settings_seen : (v w : CoderState) → w ≡ v → HasSettings v w.bits w.umax w.gamma_star
 settings_seen v w e = rw (← e) (record { bits_are = refl; umax_is = refl; size_is = refl })
 
-pub bands_seen : {v w : Counts} → w ≡ v → w.bands ≡ v.bands
-bands_seen e = ap (λ (w : Counts). w.bands) e
+pub bands_seen : {v w : CoderState} → w ≡ v → w.bands ≡ v.bands
+bands_seen e = ap (λ (w : CoderState). w.bands) e
 
-module _ (v : Counts) (items : List Tracked) (same : statistics_of items ≡ v.bands) (z : ℕ) (lt : z < length v.bands) where
+module _ (v : CoderState) (items : List BandState) (same : statistics_of items ≡ v.bands) (z : ℕ) (lt : z < length v.bands) where
   pub band_inside : z < length items
   band_inside = omega (arith, lt, ap length same, statistics_count items)
 
-  pub band_own : (t : Tracked) → t ≡ get_or items z t → of_band v.bands z ≡ t.statistics
+  pub band_own : (t : BandState) → t ≡ get_or items z t → of_band v.bands z ≡ t.statistics
   band_own t is =
       rw (← same) (statistics_at items z band_inside)
-      ∙ ap (λ (k : Tracked). k.statistics) (sym (is ∙ get_or_default items z t no_tracked band_inside))
+      ∙ ap (λ (k : BandState). k.statistics) (sym (is ∙ get_or_default items z t no_state band_inside))
 
   -- what is kept of it, and what is kept of it anew
-  module _ (run : RunCodes) (was : AreTracked run items) (t : Tracked) where
-    pub tracked_own : t ≡ get_or items z t → IsTracked run t
-    tracked_own is = subst (IsTracked run) (sym (is ∙ get_or_default items z t no_tracked band_inside)) (was z band_inside)
+  module _ (settings : CodeSettings) (was : AreBandStates settings items) (t : BandState) where
+    pub state_own : t ≡ get_or items z t → IsBandState settings t
+    state_own is = subst (IsBandState settings) (sym (is ∙ get_or_default items z t no_state band_inside)) (was z band_inside)
 
-    pub tracked_anew : IsTracked run t → AreTracked run (set items z t)
-    tracked_anew here = tracked_set run items z t band_inside here was
+    pub state_anew : IsBandState settings t → AreBandStates settings (set items z t)
+    state_anew here = state_set settings items z t band_inside here was
 
-  pub count_stays : (t : Tracked) → length (statistics_of (set items z t)) ≡ length v.bands
+  pub count_stays : (t : BandState) → length (statistics_of (set items z t)) ≡ length v.bands
   count_stays t = omega (arith, statistics_count (set items z t), length-set items z t, statistics_count items, ap length same)
 
 -- all of them in a slice, and others in its place
-module _ (v : Counts) (items : List Tracked) (same : statistics_of items ≡ v.bands) (slice : List Tracked) (is : slice ≡ items) where
+module _ (v : CoderState) (items : List BandState) (same : statistics_of items ≡ v.bands) (slice : List BandState) (is : slice ≡ items) where
   pub slice_holds : (n : ℕ) → n ≤ length v.bands → n ≤ length slice
   slice_holds n le = omega (arith, le, ap length same, statistics_count items, ap length is)
 
-  module _ (len : ℕ) (new rest : List Tracked) (long : length new ≡ length slice) (full : length slice ≡ len) where
+  module _ (len : ℕ) (new rest : List BandState) (long : length new ≡ length slice) (full : length slice ≡ len) where
     pub slice_is_new : take len (new ++ rest) ≡ new
     slice_is_new = take_at new rest len (long ∙ full)
 
-    pub slice_tracked : (run : RunCodes) → AreTracked run new → AreTracked run (take len (new ++ rest))
-    slice_tracked run h = rw slice_is_new h
+    pub slice_states : (settings : CodeSettings) → AreBandStates settings new → AreBandStates settings (take len (new ++ rest))
+    slice_states settings h = rw slice_is_new h
 
     pub slice_count : length (statistics_of (take len (new ++ rest))) ≡ length v.bands
     slice_count = rw slice_is_new (omega (arith, statistics_count new, statistics_count items, ap length same, long, ap length is))

@@ -4,21 +4,21 @@ use Rattle.cube_core.specs.declared.order.Place.{Place}
 use Rattle.sample_adaptive.specs.Statistics.{CoderSettings}
 use Rattle.sample_adaptive.specs.Words.{code_word, code_at}
 
--- the numbers of band z, out of numbers along places
-unfoldable pub band_numbers : ℕ → List Place → List ℕ → List ℕ
-band_numbers z [] numbers = []
-band_numbers z (p ∷ places) [] = []
-band_numbers z (p ∷ places) (number ∷ numbers) =
-    if p.z == z then number ∷ band_numbers z places numbers else band_numbers z places numbers
+-- the residuals of band z, among the residuals of these places
+unfoldable pub band_residuals : ℕ → List Place → List ℕ → List ℕ
+band_residuals z [] residuals = []
+band_residuals z (p ∷ places) [] = []
+band_residuals z (p ∷ places) (residual ∷ residuals) =
+    if p.z == z then residual ∷ band_residuals z places residuals else band_residuals z places residuals
 
--- the code words of numbers along places, each by the earlier numbers of its band; some places and numbers went before
+-- the code words of the residuals of places, each by the earlier residuals of its band; the places `gone` and their residuals `before` come first
 unfoldable pub words_after : CoderSettings → List Place → List ℕ → List Place → List ℕ → List Bool
-words_after c gone before [] numbers = []
+words_after c gone before [] residuals = []
 words_after c gone before (p ∷ places) [] = []
-words_after c gone before (p ∷ places) (number ∷ numbers) =
-    code_word (code_at c p.z (band_numbers p.z gone before)) number
-    ++ words_after c (gone ++ p ∷ []) (before ++ number ∷ []) places numbers
+words_after c gone before (p ∷ places) (residual ∷ residuals) =
+    code_word (code_at c p.z (band_residuals p.z gone before)) residual
+    ++ words_after c (gone ++ p ∷ []) (before ++ residual ∷ []) places residuals
 
--- the body of numbers along places
+-- the body of the residuals of places
 unfoldable pub sample_body : CoderSettings → List Place → List ℕ → List Bool
-sample_body c places numbers = words_after c [] [] places numbers
+sample_body c places residuals = words_after c [] [] places residuals

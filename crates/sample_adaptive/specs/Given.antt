@@ -1,4 +1,4 @@
--- Which numbers of an image's body a coder has given: the first ones, in encoding order.
+-- The residuals that a coder has decoded of an image's body: the first ones, in encoding order.
 use Rattle.std.specs.Prelude.{ℕ, ◌≡◌, ◌^◌, ◌<◌, Bool, List, ◌++◌, length, take, slice_get, Some, Result, Ok, Err, MatchResult}
 use Rattle.std.specs.List.{AllByRecursion}
 use Rattle.cube_core.specs.declared.fault.Fault.{Fault}
@@ -8,37 +8,37 @@ use Rattle.header_bits.specs.declared.params.Params.{Params}
 use Rattle.header_bits.specs.Bits.{Unread}
 use Rattle.sample_adaptive.specs.Statistics.{CoderSettings}
 use Rattle.sample_adaptive.specs.Settings.{IsSample, settings}
-use Rattle.sample_adaptive.specs.Body.{band_numbers}
+use Rattle.sample_adaptive.specs.Body.{band_residuals}
 use Rattle.sample_adaptive.specs.Reading.{sample_body_at}
-use Rattle.sample_adaptive.specs.Taken.{Counts, HasTaken}
+use Rattle.sample_adaptive.specs.Taken.{CoderState, HasTaken}
 
--- bits are read as these numbers along places, whatever bits come after them
+-- the bits are read as the residuals of places, whatever bits follow
 abbrev pub AreRead : CoderSettings → List Place → List ℕ → List Bool → Type 0
-AreRead c places numbers bits = (count : ℕ) (left : List Bool) → sample_body_at count c places (bits ++ left) ≡ Ok (numbers, left)
+AreRead c places residuals bits = (count : ℕ) (left : List Bool) → sample_body_at count c places (bits ++ left) ≡ Ok (residuals, left)
 
--- the places of so many numbers
+-- the first places in encoding order, as many as there are residuals
 abbrev pub places_of : Params → List ℕ → List Place
-places_of p numbers = take (length numbers) (places p.shape p.order)
+places_of p residuals = take (length residuals) (places p.shape p.order)
 
--- the numbers were given, and the bits are read as they are
-pub record HasGiven (p : Params) (v : Counts) (numbers : List ℕ) (bits : List Bool) : Type 0 where
+-- the coder has decoded the residuals from the bits
+pub record HasGiven (p : Params) (v : CoderState) (residuals : List ℕ) (bits : List Bool) : Type 0 where
   pub coder : IsSample p.coder
   pub bands : length v.bands ≡ p.shape.bands
-  pub taken : HasTaken (settings p) v (λ z. band_numbers z (places_of p numbers) numbers)
-  pub read : AreRead (settings p) (places_of p numbers) numbers bits
+  pub taken : HasTaken (settings p) v (λ z. band_residuals z (places_of p residuals) residuals)
+  pub read : AreRead (settings p) (places_of p residuals) residuals bits
 
--- the next number is number t of band z
+-- the next residual is one of band z, of which t came before
 abbrev pub IsNext : Params → List ℕ → ℕ → ℕ → Type 0
-IsNext p numbers z t =
-    (q : Place) × (slice_get (places p.shape p.order) (length numbers) ≡ Some q) × (q.z ≡ z) × (t ≡ length (band_numbers z (places_of p numbers) numbers))
+IsNext p residuals z t =
+    (q : Place) × (slice_get (places p.shape p.order) (length residuals) ≡ Some q) × (q.z ≡ z) × (t ≡ length (band_residuals z (places_of p residuals) residuals))
 
--- bits were read, and with them these numbers more are given, each in range
-abbrev pub GivesAll : Params → List ℕ → List Bool → List Bool → Counts → List Bool → List ℕ → Type 0
-GivesAll p numbers bits unread new left list =
-    AllByRecursion (λ n. n < 2 ^ p.kind.bits) list × (read : List Bool) × (unread ≡ read ++ left) × HasGiven p new (numbers ++ list) (bits ++ read)
+-- some bits were read, from which the coder decoded the residuals `list`, each below 2^D
+abbrev pub GivesAll : Params → List ℕ → List Bool → List Bool → CoderState → List Bool → List ℕ → Type 0
+GivesAll p residuals bits unread new left list =
+    AllByRecursion (λ n. n < 2 ^ p.kind.bits) list × (read : List Bool) × (unread ≡ read ++ left) × HasGiven p new (residuals ++ list) (bits ++ read)
 
--- the numbers of the answer more are given, or the refusal is that of the body
-abbrev pub GivesMore : {X : Type 0} → (X → List ℕ) → Result X Fault → Params → List ℕ → List Bool → Unread → Counts → List Bool → Type 0
-GivesMore numbers_of result p numbers bits unread new left =
-    MatchResult result (λ answer. GivesAll p numbers bits unread.left new left (numbers_of answer))
+-- on success the result's residuals were decoded; a refusal is the first fault of the body
+abbrev pub GivesMore : {X : Type 0} → (X → List ℕ) → Result X Fault → Params → List ℕ → List Bool → Unread → CoderState → List Bool → Type 0
+GivesMore residuals_of result p residuals bits unread new left =
+    MatchResult result (λ answer. GivesAll p residuals bits unread.left new left (residuals_of answer))
     (λ fault. sample_body_at unread.count (settings p) (places p.shape p.order) (bits ++ unread.left) ≡ Err fault)

@@ -1,11 +1,11 @@
 pub mod Body
-pub mod Everything
+pub mod Unfold
 pub mod Given
 pub mod Laws
 pub mod Reading
-pub mod Rows
+pub mod Examples
 pub mod Settings
 pub mod Statistics
 pub mod Taken
-pub mod Tracked
+pub mod BandStates
 pub mod Words

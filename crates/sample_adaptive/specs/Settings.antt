@@ -1,4 +1,4 @@
--- What parameters tell the sample-adaptive coder (CCSDS 123.0-B-1, "Sample-adaptive entropy coder").
+-- The settings of the sample-adaptive coder among the parameters (CCSDS 123.0-B-1, "Sample-adaptive entropy coder").
 use Rattle.std.specs.Prelude.{ℕ, ◌≡◌, ◌+◌, ◌<◌, ◌≤◌, length}
 use Rattle.cube_core.specs.Shape.{InRange}
 use Rattle.header_bits.specs.declared.params.Params.{Params}
@@ -8,7 +8,7 @@ use Rattle.header_bits.specs.declared.params.CountStart.{CountStart}
 use Rattle.header_bits.specs.declared.params.CountStart.TheVariants.{Constant, Each}
 use Rattle.sample_adaptive.specs.Statistics.{CoderSettings, constant_of}
 
--- the settings of a coder for samples of so many bits
+-- the settings of a coder for samples of `bits` bits
 abbrev pub coder_settings : ℕ → Coder → CoderSettings
 coder_settings bits (Sample umax gamma_star gamma_zero start) =
     record { bits = bits; umax = umax; gamma_star = gamma_star; gamma_zero = gamma_zero; start = start }
@@ -23,12 +23,12 @@ abbrev pub IsSample : Coder → Type 0
 IsSample (Sample umax gamma_star gamma_zero start) = Unit {0}
 IsSample (Block size restricted reference) = ⊥
 
--- a table has an entry for each band
+-- an accumulator table has an entry for each band
 abbrev pub HasEntries : ℕ → CountStart → Type 0
 HasEntries bands (Constant k) = Unit {0}
 HasEntries bands (Each table) = length table ≡ bands
 
--- settings in range for an image of so many bands
+-- the settings are in range for an image of `bands` bands
 pub record AreLawful (bands : ℕ) (c : CoderSettings) : Type 0 where
   pub bits : InRange 2 16 c.bits
   pub umax : InRange 8 32 c.umax
@@ -38,7 +38,7 @@ pub record AreLawful (bands : ℕ) (c : CoderSettings) : Type 0 where
   pub entries : HasEntries bands c.start
   pub constants : (z : ℕ) → z < bands → constant_of c.start z + 2 ≤ c.bits
 
--- the parameters are for this coder, and its settings are in range
+-- the parameters name this coder, and its settings are in range
 pub record AreForSamples (p : Params) : Type 0 where
   pub coder : IsSample p.coder
   pub lawful : AreLawful p.shape.bands (settings p)

@@ -5,7 +5,7 @@ use Rattle.header_bits.specs.declared.params.CountStart.{CountStart}
 use Rattle.header_bits.specs.declared.params.CountStart.TheVariants.{Constant, Each}
 use Rattle.sample_adaptive.specs.declared.statistics.Statistics.{Statistics}
 
--- what the coder is told: D, the unary length limit, the counter's two exponents, and what the accumulator starts from
+-- D, U_max, γ*, γ₀ and K, which is the same for all bands or has an entry for each
 pub record CoderSettings : Type 0 where
   pub bits : ℕ
   pub umax : ℕ
@@ -25,29 +25,29 @@ start_statistics gamma_zero k = record { counter = 2 ^ gamma_zero; accumulator =
 abbrev pub first_statistics : CoderSettings → ℕ → Statistics
 first_statistics c z = start_statistics c.gamma_zero (constant_of c.start z)
 
--- a number is summed and counted; where the counter stands at 2^γ* - 1, both are halved
+-- the statistics after one more residual: it is added to Σ, and Γ grows by 1; if Γ was 2^γ* - 1, both are halved
 unfoldable pub next_statistics : ℕ → Statistics → ℕ → Statistics
-next_statistics gamma_star s number =
-    if nat_lt s.counter (2 ^ gamma_star - 1) then record { counter = s.counter + 1; accumulator = s.accumulator + number }
-    else record { counter = (s.counter + 1) / 2; accumulator = (s.accumulator + number + 1) / 2 }
+next_statistics gamma_star s residual =
+    if nat_lt s.counter (2 ^ gamma_star - 1) then record { counter = s.counter + 1; accumulator = s.accumulator + residual }
+    else record { counter = (s.counter + 1) / 2; accumulator = (s.accumulator + residual + 1) / 2 }
 
--- numbers enter, one after another
+-- the statistics after more residuals
 unfoldable pub statistics_from : ℕ → Statistics → List ℕ → Statistics
 statistics_from gamma_star s [] = s
-statistics_from gamma_star s (number ∷ numbers) = statistics_from gamma_star (next_statistics gamma_star s number) numbers
+statistics_from gamma_star s (residual ∷ residuals) = statistics_from gamma_star (next_statistics gamma_star s residual) residuals
 
--- the statistics after numbers of band z, of which the first doesn't enter
+-- the statistics after residuals of band z, the first of which, at t = 0, isn't counted
 unfoldable pub statistics : CoderSettings → ℕ → List ℕ → Statistics
 statistics c z [] = first_statistics c z
 statistics c z (first ∷ later) = statistics_from c.gamma_star (first_statistics c z) later
 
--- Γ after numbers of band z
+-- Γ after residuals of band z
 abbrev pub counter : CoderSettings → ℕ → List ℕ → ℕ
-counter c z numbers = (statistics c z numbers).counter
+counter c z residuals = (statistics c z residuals).counter
 
--- Σ after numbers of band z
+-- Σ after residuals of band z
 abbrev pub accumulator : CoderSettings → ℕ → List ℕ → ℕ
-accumulator c z numbers = (statistics c z numbers).accumulator
+accumulator c z residuals = (statistics c z residuals).accumulator
 
 -- what Γ·2^k is compared with: Σ + floor(49·Γ / 128)
 abbrev pub level : Statistics → ℕ
@@ -59,7 +59,7 @@ code_parameter bits s =
     if nat_lt (level s) (2 * s.counter) then 0
     else greatest (λ k. nat_le (s.counter * 2 ^ k) (level s)) (bits - 2)
 
--- the counter is 1 to 2^γ* - 1, and the accumulator at most 2^16 times as large
+-- Γ is 1 to 2^γ* - 1, and Σ at most 2^16·Γ
 pub record AreStatistics (gamma_star : ℕ) (s : Statistics) : Type 0 where
   pub least : 1 ≤ s.counter
   pub most : s.counter < 2 ^ gamma_star

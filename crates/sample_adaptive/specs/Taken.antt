@@ -1,4 +1,4 @@
--- What a coder of one image keeps, and which numbers it has taken.
+-- The state of the coder of one image, and the residuals that it has taken.
 use Rattle.std.specs.Prelude.{ℕ, suc, ◌≡◌, ◌+◌, ◌<◌, ◌==◌, Bool, if◌then◌else◌, List, [], ◌∷◌, ◌++◌, length, slice_index_or, slice_set, Option, None}
 use Rattle.std.specs.Prelude.{Result, IfOk, take}
 use Rattle.std.specs.List.{AllByRecursion}
@@ -10,18 +10,18 @@ use Rattle.sample_adaptive.specs.declared.code_word.Code.{Code}
 use Rattle.sample_adaptive.specs.declared.statistics.Statistics.{Statistics}
 use Rattle.sample_adaptive.specs.Statistics.{CoderSettings, statistics, next_statistics, code_parameter}
 use Rattle.sample_adaptive.specs.Words.{code_word, code_at}
-use Rattle.sample_adaptive.specs.Body.{band_numbers, words_after}
+use Rattle.sample_adaptive.specs.Body.{band_residuals, words_after}
 use Rattle.sample_adaptive.specs.Reading.{word_at, words_at}
 
--- D, the unary length limit, the rescaling counter size, each band's statistics, and the refusal that was met
-pub record Counts : Type 0 where
+-- D, U_max, γ*, each band's statistics, and the fault for which a read was refused, if one was
+pub record CoderState : Type 0 where
   pub bits : ℕ
   pub umax : ℕ
   pub gamma_star : ℕ
   pub bands : List Statistics
   pub refused : Option Fault
 
--- statistics of no number
+-- a placeholder for the statistics of a band that doesn't exist
 abbrev pub no_statistics : Statistics
 no_statistics = record { counter = 0; accumulator = 0 }
 
@@ -29,112 +29,112 @@ no_statistics = record { counter = 0; accumulator = 0 }
 abbrev pub of_band : List Statistics → ℕ → Statistics
 of_band bands z = slice_index_or bands z no_statistics
 
--- D, the unary length limit and the rescaling counter size are these
-pub record HasSettings (v : Counts) (bits umax gamma_star : ℕ) : Type 0 where
+-- D, U_max and γ* of a state
+pub record HasSettings (v : CoderState) (bits umax gamma_star : ℕ) : Type 0 where
   pub bits_are : v.bits ≡ bits
   pub umax_is : v.umax ≡ umax
   pub size_is : v.gamma_star ≡ gamma_star
 
--- the statistics of a band are others
-abbrev pub with_band : Counts → ℕ → Statistics → Counts
+-- the state with other statistics of band z
+abbrev pub with_band : CoderState → ℕ → Statistics → CoderState
 with_band v z s = record v { bands = slice_set v.bands z s }
 
--- how number t of band z is written
-abbrev pub code_by : Counts → ℕ → ℕ → Code
+-- the code of the residual at raster index t of band z
+abbrev pub code_by : CoderState → ℕ → ℕ → Code
 code_by v z t =
-    if t == 0 then record { limit = 0; low = 0; bits = v.bits }
-    else record { limit = v.umax; low = code_parameter v.bits (of_band v.bands z); bits = v.bits }
+    if t == 0 then record { limit = 0; k = 0; bits = v.bits }
+    else record { limit = v.umax; k = code_parameter v.bits (of_band v.bands z); bits = v.bits }
 
--- number t of band z is counted, unless it is the first
-abbrev pub counted : Counts → ℕ → ℕ → ℕ → Counts
-counted v z t number =
-    if t == 0 then v else record v { bands = slice_set v.bands z (next_statistics v.gamma_star (of_band v.bands z) number) }
+-- the state after the residual at raster index t of band z, which isn't counted at t = 0
+abbrev pub counted : CoderState → ℕ → ℕ → ℕ → CoderState
+counted v z t residual =
+    if t == 0 then v else record v { bands = slice_set v.bands z (next_statistics v.gamma_star (of_band v.bands z) residual) }
 
--- numbers of each band were taken: the settings stand, each band's statistics are those of its numbers, and nothing was refused
-pub record HasTaken (c : CoderSettings) (v : Counts) (taken : ℕ → List ℕ) : Type 0 where
+-- the coder has taken these residuals of each band: it has the settings and each band's statistics, and refused nothing
+pub record HasTaken (c : CoderSettings) (v : CoderState) (taken : ℕ → List ℕ) : Type 0 where
   pub bits : v.bits ≡ c.bits
   pub umax : v.umax ≡ c.umax
   pub gamma_star : v.gamma_star ≡ c.gamma_star
   pub bands : (z : ℕ) → z < length v.bands → of_band v.bands z ≡ statistics c z (taken z)
   pub working : v.refused ≡ None
 
--- one number more, of band z
-abbrev pub with_number : (ℕ → List ℕ) → ℕ → ℕ → ℕ → List ℕ
-with_number taken z number b = if b == z then taken b ++ number ∷ [] else taken b
+-- one more residual, of band z
+abbrev pub with_residual : (ℕ → List ℕ) → ℕ → ℕ → ℕ → List ℕ
+with_residual taken z residual b = if b == z then taken b ++ residual ∷ [] else taken b
 
--- whatever numbers were taken before, of which band z has t: the code word of the number was appended, and the number is taken
-abbrev pub PutsNumber : ℕ → ℕ → ℕ → Counts → List Bool → Counts → List Bool → Type 0
-PutsNumber z t number old written new written_now =
+-- whatever was taken before, with t residuals of band z: the residual's code word is appended, and the residual is taken
+abbrev pub PutsResidual : ℕ → ℕ → ℕ → CoderState → List Bool → CoderState → List Bool → Type 0
+PutsResidual z t residual old written new written_now =
     (c : CoderSettings) (taken : ℕ → List ℕ) → HasTaken c old taken → t ≡ length (taken z)
-    → (written_now ≡ written ++ code_word (code_at c z (taken z)) number) × HasTaken c new (with_number taken z number)
+    → (written_now ≡ written ++ code_word (code_at c z (taken z)) residual) × HasTaken c new (with_residual taken z residual)
 
--- numbers of one band that follow one another: whatever numbers were taken along places before, of which the band has t, their code words were appended,
--- and they are taken
-abbrev pub PutsRun : ℕ → ℕ → List ℕ → Counts → List Bool → Counts → List Bool → Type 0
-PutsRun z t numbers old written new written_now =
-    (c : CoderSettings) (gone places : List Place) (before : List ℕ) → length before ≡ length gone → length numbers ≡ length places
+-- successive residuals of one band: whatever was taken before, with t residuals of the band, their code words are appended, and they are taken
+abbrev pub PutsRun : ℕ → ℕ → List ℕ → CoderState → List Bool → CoderState → List Bool → Type 0
+PutsRun z t residuals old written new written_now =
+    (c : CoderSettings) (gone places : List Place) (before : List ℕ) → length before ≡ length gone → length residuals ≡ length places
     → AllByRecursion (λ p. p.z ≡ z) places
-    → HasTaken c old (λ b. band_numbers b gone before) → t ≡ length (band_numbers z gone before)
-    → (written_now ≡ written ++ words_after c gone before places numbers) × HasTaken c new (λ b. band_numbers b (gone ++ places) (before ++ numbers))
+    → HasTaken c old (λ b. band_residuals b gone before) → t ≡ length (band_residuals z gone before)
+    → (written_now ≡ written ++ words_after c gone before places residuals) × HasTaken c new (λ b. band_residuals b (gone ++ places) (before ++ residuals))
 
--- one number each of bands one above another, from band z on: each is taken in turn, as number t of its band
-abbrev pub PutsColumn : ℕ → ℕ → List ℕ → Counts → List Bool → Counts → List Bool → Type 0
+-- one residual of each of successive bands, from band z on: each is taken in turn, at raster index t of its band
+abbrev pub PutsColumn : ℕ → ℕ → List ℕ → CoderState → List Bool → CoderState → List Bool → Type 0
 PutsColumn z t [] old written new written_now = (new ≡ old) × (written_now ≡ written)
-PutsColumn z t (number ∷ numbers) old written new written_now =
-    (mid : Counts) × (written_mid : List Bool) × (length mid.bands ≡ length old.bands) × (mid.bits ≡ old.bits)
-    × PutsNumber z t number old written mid written_mid × PutsColumn (suc z) t numbers mid written_mid new written_now
+PutsColumn z t (residual ∷ residuals) old written new written_now =
+    (mid : CoderState) × (written_mid : List Bool) × (length mid.bands ≡ length old.bands) × (mid.bits ≡ old.bits)
+    × PutsResidual z t residual old written mid written_mid × PutsColumn (suc z) t residuals mid written_mid new written_now
 
--- numbers are written one after another, whatever was read or refused before: the first as number ts i of band zs i, the next as number ts (i + 1) of band
--- zs (i + 1), .., each with the code of what was counted before it
-abbrev pub Writes : (ℕ → ℕ) → (ℕ → ℕ) → ℕ → List ℕ → Counts → List Bool → Counts → List Bool → Type 0
+-- residuals are written one after another, whatever was read or refused before: the first at raster index ts i of band zs i, the next at ts (i + 1) of band
+-- zs (i + 1), .., each with the code that the state before it gives
+abbrev pub Writes : (ℕ → ℕ) → (ℕ → ℕ) → ℕ → List ℕ → CoderState → List Bool → CoderState → List Bool → Type 0
 Writes zs ts i [] old written new written_now = (new ≡ old) × (written_now ≡ written)
-Writes zs ts i (number ∷ numbers) old written new written_now =
-    Writes zs ts (i + 1) numbers (counted old (zs i) (ts i) number) (written ++ code_word (code_by old (zs i) (ts i)) number) new written_now
+Writes zs ts i (residual ∷ residuals) old written new written_now =
+    Writes zs ts (i + 1) residuals (counted old (zs i) (ts i) residual) (written ++ code_word (code_by old (zs i) (ts i)) residual) new written_now
 
--- numbers of one band that follow one another, from its number t on
-abbrev pub WritesRun : ℕ → ℕ → List ℕ → Counts → List Bool → Counts → List Bool → Type 0
-WritesRun z t numbers old written new written_now = Writes (λ i. z) (λ i. t + i) 0 numbers old written new written_now
+-- successive residuals of one band, from raster index t on
+abbrev pub WritesRun : ℕ → ℕ → List ℕ → CoderState → List Bool → CoderState → List Bool → Type 0
+WritesRun z t residuals old written new written_now = Writes (λ i. z) (λ i. t + i) 0 residuals old written new written_now
 
--- number t of each of bands one above another, from band z on
-abbrev pub WritesColumn : ℕ → ℕ → List ℕ → Counts → List Bool → Counts → List Bool → Type 0
-WritesColumn z t numbers old written new written_now = Writes (λ i. z + i) (λ i. t) 0 numbers old written new written_now
+-- the residual at raster index t of each of successive bands, from band z on
+abbrev pub WritesColumn : ℕ → ℕ → List ℕ → CoderState → List Bool → CoderState → List Bool → Type 0
+WritesColumn z t residuals old written new written_now = Writes (λ i. z + i) (λ i. t) 0 residuals old written new written_now
 
--- whatever numbers were taken before, of which band z has t: the number whose code word stands next was taken, or the first fault is answered, at a place
-abbrev pub GetsAt : ℕ → ℕ → ℕ → Result ℕ Fault → Counts → Unread → Counts → List Bool → Type 0
+-- whatever was taken before, with t residuals of band z: the residual whose code word comes next is returned and taken, or the fault is that of the word,
+-- with this index
+abbrev pub GetsAt : ℕ → ℕ → ℕ → Result ℕ Fault → CoderState → Unread → CoderState → List Bool → Type 0
 GetsAt z t index result old unread new left =
     (c : CoderSettings) (taken : ℕ → List ℕ) → HasTaken c old taken → t ≡ length (taken z)
-    → Reads (λ number. number) result left (word_at unread.count index (code_at c z (taken z)) unread.left)
-    × IfOk result (λ number. HasTaken c new (with_number taken z number))
+    → Reads (λ residual. residual) result left (word_at unread.count index (code_at c z (taken z)) unread.left)
+    × IfOk result (λ residual. HasTaken c new (with_residual taken z residual))
 
--- the index of the fault is the number's own in its band
-abbrev pub GetsNumber : ℕ → ℕ → Result ℕ Fault → Counts → Unread → Counts → List Bool → Type 0
-GetsNumber z t result old unread new left = GetsAt z t t result old unread new left
+-- the same, with the residual's raster index in its band as the index of a fault
+abbrev pub GetsResidual : ℕ → ℕ → Result ℕ Fault → CoderState → Unread → CoderState → List Bool → Type 0
+GetsResidual z t result old unread new left = GetsAt z t t result old unread new left
 
--- places of bands zs i, zs (i + 1), ..: before each, its band has ts i, ts (i + 1), .. numbers, whatever the numbers between are
+-- places of bands zs i, zs (i + 1), ..: before each, its band has ts i, ts (i + 1), .. residuals, whatever the residuals at the places between are
 abbrev pub AreEach : (ℕ → ℕ) → (ℕ → ℕ) → ℕ → List Place → List ℕ → List Place → Type 0
 AreEach zs ts i gone before [] = Unit {0}
 AreEach zs ts i gone before (p ∷ places) =
-    (p.z ≡ zs i) × (ts i ≡ length (band_numbers (zs i) gone before))
-    × ((number : ℕ) → AreEach zs ts (i + 1) (gone ++ p ∷ []) (before ++ number ∷ []) places)
+    (p.z ≡ zs i) × (ts i ≡ length (band_residuals (zs i) gone before))
+    × ((residual : ℕ) → AreEach zs ts (i + 1) (gone ++ p ∷ []) (before ++ residual ∷ []) places)
 
--- numbers at such places: whatever numbers were taken along places before, those whose code words stand next were given and taken; or the answer is the
--- first fault of so many places
-abbrev pub GetsEach : (ℕ → ℕ) → (ℕ → ℕ) → ℕ → ℕ → Result (Unit {0}) Fault → Counts → Unread → Counts → List Bool → List ℕ → Type 0
-GetsEach zs ts i index result old unread new left numbers =
-    (c : CoderSettings) (gone places : List Place) (before : List ℕ) → length before ≡ length gone → length numbers ≡ length places
-    → AreEach zs ts i gone before places → HasTaken c old (λ b. band_numbers b gone before) → index ≡ length before
-    → Reads (λ _. numbers) result left (words_at unread.count c gone before places unread.left)
-    × IfOk result (λ _. HasTaken c new (λ b. band_numbers b (gone ++ places) (before ++ numbers)))
+-- residuals at such places: whatever was taken before, those whose code words come next are returned and taken, or the result is the first fault of
+-- the words at these places
+abbrev pub GetsEach : (ℕ → ℕ) → (ℕ → ℕ) → ℕ → ℕ → Result (Unit {0}) Fault → CoderState → Unread → CoderState → List Bool → List ℕ → Type 0
+GetsEach zs ts i index result old unread new left residuals =
+    (c : CoderSettings) (gone places : List Place) (before : List ℕ) → length before ≡ length gone → length residuals ≡ length places
+    → AreEach zs ts i gone before places → HasTaken c old (λ b. band_residuals b gone before) → index ≡ length before
+    → Reads (λ _. residuals) result left (words_at unread.count c gone before places unread.left)
+    × IfOk result (λ _. HasTaken c new (λ b. band_residuals b (gone ++ places) (before ++ residuals)))
 
--- numbers of one band that follow one another, from its number t on
-abbrev pub GetsRun : ℕ → ℕ → ℕ → Result (Unit {0}) Fault → Counts → Unread → Counts → List Bool → List ℕ → Type 0
-GetsRun z t index result old unread new left numbers = GetsEach (λ i. z) (λ i. t + i) 0 index result old unread new left numbers
+-- successive residuals of one band, from raster index t on
+abbrev pub GetsRun : ℕ → ℕ → ℕ → Result (Unit {0}) Fault → CoderState → Unread → CoderState → List Bool → List ℕ → Type 0
+GetsRun z t index result old unread new left residuals = GetsEach (λ i. z) (λ i. t + i) 0 index result old unread new left residuals
 
--- number t of each of bands one above another, from band z on
-abbrev pub GetsColumn : ℕ → ℕ → ℕ → Result (Unit {0}) Fault → Counts → Unread → Counts → List Bool → List ℕ → Type 0
-GetsColumn z t index result old unread new left numbers = GetsEach (λ i. z + i) (λ i. t) 0 index result old unread new left numbers
+-- the residual at raster index t of each of successive bands, from band z on
+abbrev pub GetsColumn : ℕ → ℕ → ℕ → Result (Unit {0}) Fault → CoderState → Unread → CoderState → List Bool → List ℕ → Type 0
+GetsColumn z t index result old unread new left residuals = GetsEach (λ i. z + i) (λ i. t) 0 index result old unread new left residuals
 
--- the first i numbers were read: with whatever numbers are read after them, they are read as one list
-pub record Reaches (zs ts : ℕ → ℕ) (k index i : ℕ) (v w : Counts) (first now : Unread) (numbers : List ℕ) : Type 0 where
-  pub append : (r : Result (Unit {0}) Fault) (new : Counts) (left : List Bool) (ys : List ℕ)
-      → GetsEach zs ts (k + i) (index + i) r w now new left ys → GetsEach zs ts k index r v first new left (take i numbers ++ ys)
+-- the first i residuals were read: with whatever residuals are read after them, they are read as one list
+pub record Reaches (zs ts : ℕ → ℕ) (k index i : ℕ) (v w : CoderState) (first now : Unread) (residuals : List ℕ) : Type 0 where
+  pub append : (r : Result (Unit {0}) Fault) (new : CoderState) (left : List Bool) (ys : List ℕ)
+      → GetsEach zs ts (k + i) (index + i) r w now new left ys → GetsEach zs ts k index r v first new left (take i residuals ++ ys)

@@ -1,4 +1,4 @@
-//! Columns of code words, read back: one number of each of several bands.
+//! Columns of code words, read back: one residual of each of several bands.
 
 ghost use Rattle.std.specs.Prelude.{◌≡◌, ◌+◌, ◌^◌, ◌<◌, ◌≤◌, ◌==◌, length, Some, IfOk, IfErr, OnErr, ℕ};
 ghost use Rattle.cube_core.specs.declared.fault.Fault.{Fault};
@@ -6,24 +6,24 @@ ghost use Rattle.sample_adaptive.specs.Reading.{fault_at, word_at};
 ghost use Rattle.header_bits.specs.Reading.{Reads};
 ghost use Rattle.header_bits.specs.Windows.{IsAhead};
 ghost use Rattle.sample_adaptive.specs.Statistics.{code_parameter};
-ghost use Rattle.sample_adaptive.specs.Taken.{Counts, HasSettings, GetsEach, GetsColumn, Reaches, code_by, counted, of_band, with_band};
-ghost use Rattle.sample_adaptive.specs.Tracked.{IsTracked, AreTracked, statistics_of};
+ghost use Rattle.sample_adaptive.specs.Taken.{CoderState, HasSettings, GetsEach, GetsColumn, Reaches, code_by, counted, of_band, with_band};
+ghost use Rattle.sample_adaptive.specs.BandStates.{IsBandState, AreBandStates, statistics_of};
 
+use crate::band_state::BandState;
+use crate::code_settings::CodeSettings;
 use crate::code_word::{Code, take_from, take_word};
-use crate::run_codes::RunCodes;
 use crate::stats::Stats;
-use crate::tracked::Tracked;
 use cube_core::fault::Fault;
 use header_bits::bit_reader::BitReader;
 
 impl Stats {
-    /// Reads number `t` of band `z`, then that of the next band, and so on, whose code words come next, into `numbers`,
+    /// Reads residual `t` of band `z`, then that of the next band, and so on, whose code words come next, into `residuals`,
     /// and updates the bands' statistics.
     ///
-    /// `t` counts each band's numbers from 0, and the first number is at `index` in encoding order. At most 65,536 numbers are
-    /// read, and from `z` on there are at least as many bands. Where a number is refused, it returns the fault that `get` returns,
-    /// but `BadCode` has the number's index in encoding order. Then the reader keeps its position, every later read returns the
-    /// same, and the statistics and what is in `numbers` are unspecified.
+    /// `t` counts each band's residuals from 0, and the first residual is at `index` in encoding order. At most 65,536 residuals are
+    /// read, and from `z` on there are at least as many bands. Where a residual is refused, it returns the fault that `get` returns,
+    /// but `BadCode` has the residual's index in encoding order. Then the reader keeps its position, every later read returns the
+    /// same, and the statistics and what is in `residuals` are unspecified.
     #[inline]
     pub fn get_column(
         &mut self,
@@ -31,16 +31,16 @@ impl Stats {
         t: u64,
         index: u64,
         reader: &mut BitReader,
-        numbers: &mut [u16],
+        residuals: &mut [u16],
     ) -> Result<(), Fault>
-        requires inside { z + length numbers.old ≤ length self.old.bands }
-        requires long { (length numbers.old ≤ 2 ^ 16) × (index < 2 ^ 48) }
-        ensures taken { GetsColumn z t index result self.old reader.old self.new reader.new.left numbers.new }
+        requires inside { z + length residuals.old ≤ length self.old.bands }
+        requires long { (length residuals.old ≤ 2 ^ 16) × (index < 2 ^ 48) }
+        ensures taken { GetsColumn z t index result self.old reader.old self.new reader.new.left residuals.new }
         ensures again { (fault : Fault) → self.old.refused ≡ Some fault → result ≡ Err fault }
         ensures kept { IfErr result (λ fault. self.new.refused ≡ Some fault) }
         ensures same { OnErr result (reader.new ≡ reader.old) }
         ensures count { reader.new.count ≡ reader.old.count }
-        ensures long { length numbers.new ≡ length numbers.old }
+        ensures long { length residuals.new ≡ length residuals.old }
         ensures bands { (length self.new.bands ≡ length self.old.bands) × (self.new.bits ≡ self.old.bits) }
     {
         if let Some(fault) = self.refused {
@@ -49,13 +49,13 @@ impl Stats {
         // A copy goes ahead: it stays in registers, and a refusal leaves what it was made of.
         let mut ahead = reader.fork();
         match take_column(
-            self.codes,
+            self.settings,
             z as usize,
             t,
             index,
             &mut self.bands,
             &mut ahead,
-            numbers,
+            residuals,
         ) {
             Ok(()) => {
                 *reader = ahead;
@@ -69,166 +69,166 @@ impl Stats {
     }
 }
 
-/// Reads one number of each band from band `z` on, whose code words come next, and updates what is kept of them.
+/// Reads one residual of each band from band `z` on, whose code words come next, and updates the bands' states.
 ///
-/// After a refusal the reader's position and what is kept are unspecified.
+/// After a refusal the reader's position and the states are unspecified.
 #[inline(always)]
 fn take_column(
-    run: RunCodes,
+    settings: CodeSettings,
     z: usize,
     t: u64,
     index: u64,
-    bands: &mut [Tracked],
+    bands: &mut [BandState],
     reader: &mut BitReader,
-    numbers: &mut [u16],
+    residuals: &mut [u16],
 ) -> Result<(), Fault>
-    requires tracked { AreTracked run bands.old }
-    requires inside { z + length numbers.old ≤ length bands.old }
-    requires long { (length numbers.old ≤ 2 ^ 16) × (index < 2 ^ 48) }
-    ensures taken { (v : Counts) → v.bands ≡ statistics_of bands.old → HasSettings v run.bits run.limit run.rescaling.size
-        → GetsColumn z t index result v reader.old (record v { bands = statistics_of bands.new }) reader.new.left numbers.new }
-    ensures tracked { AreTracked run bands.new }
+    requires state { AreBandStates settings bands.old }
+    requires inside { z + length residuals.old ≤ length bands.old }
+    requires long { (length residuals.old ≤ 2 ^ 16) × (index < 2 ^ 48) }
+    ensures taken { (v : CoderState) → v.bands ≡ statistics_of bands.old → HasSettings v settings.bits settings.limit settings.rescaling.size
+        → GetsColumn z t index result v reader.old (record v { bands = statistics_of bands.new }) reader.new.left residuals.new }
+    ensures state { AreBandStates settings bands.new }
     ensures count { reader.new.count ≡ reader.old.count }
-    ensures long { length numbers.new ≡ length numbers.old }
+    ensures long { length residuals.new ≡ length residuals.old }
     ensures bands { length bands.new ≡ length bands.old }
 {
     if t == 0 {
-        return take_each(run, z, true, index, bands, reader, numbers);
+        return take_each(settings, z, true, index, bands, reader, residuals);
     }
-    let done = take_ready(run, z, index, bands, reader, numbers);
-    if done == numbers.len() {
+    let done = take_ready(settings, z, index, bands, reader, residuals);
+    if done == residuals.len() {
         return Ok(());
     }
     take_each(
-        run,
+        settings,
         z + done,
         false,
         index + done as u64,
         bands,
         reader,
-        &mut numbers[done..],
+        &mut residuals[done..],
     )
 }
 
-/// Reads one number of each band, none of which is its first, as long as 57 bits are left and begin with a code word. Returns
-/// how many, and updates what is kept of them.
+/// Reads one residual of each band, none of which is its first, as long as 57 bits are left and begin with a code word. Returns
+/// how many, and updates the bands' states.
 ///
 /// A loop that refuses nothing keeps all that it changes in registers.
 #[inline(always)]
 fn take_ready(
-    run: RunCodes,
+    settings: CodeSettings,
     z: usize,
     index: u64,
-    bands: &mut [Tracked],
+    bands: &mut [BandState],
     reader: &mut BitReader,
-    numbers: &mut [u16],
+    residuals: &mut [u16],
 ) -> usize
-    requires tracked { AreTracked run bands.old }
-    requires inside { z + length numbers.old ≤ length bands.old }
-    requires long { (length numbers.old ≤ 2 ^ 16) × (index < 2 ^ 48) }
-    ensures taken { (v : Counts) (t : ℕ) → 0 < t → v.bands ≡ statistics_of bands.old → HasSettings v run.bits run.limit run.rescaling.size
-        → Reaches (λ i. z + i) (λ i. t) 0 index result v (record v { bands = statistics_of bands.new }) reader.old reader.new numbers.new }
-    ensures tracked { AreTracked run bands.new }
-    ensures within { result ≤ length numbers.new }
+    requires state { AreBandStates settings bands.old }
+    requires inside { z + length residuals.old ≤ length bands.old }
+    requires long { (length residuals.old ≤ 2 ^ 16) × (index < 2 ^ 48) }
+    ensures taken { (v : CoderState) (t : ℕ) → 0 < t → v.bands ≡ statistics_of bands.old → HasSettings v settings.bits settings.limit settings.rescaling.size
+        → Reaches (λ i. z + i) (λ i. t) 0 index result v (record v { bands = statistics_of bands.new }) reader.old reader.new residuals.new }
+    ensures state { AreBandStates settings bands.new }
+    ensures within { result ≤ length residuals.new }
     ensures count { reader.new.count ≡ reader.old.count }
-    ensures long { length numbers.new ≡ length numbers.old }
+    ensures long { length residuals.new ≡ length residuals.old }
     ensures bands { length bands.new ≡ length bands.old }
 {
     let mut ahead = reader.fork();
     let mut i = 0;
-    while i < numbers.len() {
+    while i < residuals.len() {
         let Some(word) = ahead.peek() else { break };
         let band = &mut bands[z + i];
-        let Ok(number) = take_known(run, index + i as u64, word, band, &mut ahead) else {
+        let Ok(residual) = take_known(settings, index + i as u64, word, band, &mut ahead) else {
             break;
         };
-        numbers[i] = number;
+        residuals[i] = residual;
         i += 1;
     }
     *reader = ahead;
     i
 }
 
-/// Reads a band's number, not its first, whose code word the next 57 bits begin with, and updates what is kept of the band.
-/// Where a number is refused, the reader and the band's statistics are as before.
+/// Decodes one residual, not the band's first, from `word`, which begins with the next 57 bits, and updates the band's state.
+/// If the residual is refused, the reader and the band's statistics are as before.
 #[inline(always)]
 fn take_known(
-    run: RunCodes,
+    settings: CodeSettings,
     index: u64,
     word: u64,
-    band: &mut Tracked,
+    band: &mut BandState,
     reader: &mut BitReader,
 ) -> Result<u16, Fault>
-    requires tracked { IsTracked run band.old }
+    requires state { IsBandState settings band.old }
     requires ahead { IsAhead 57 reader.old.left word }
-    ensures reads { (v : Counts) (z t : ℕ) → 0 < t → HasSettings v run.bits run.limit run.rescaling.size → of_band v.bands z ≡ band.old.statistics
-        → Reads (λ number. number) result reader.new.left (word_at reader.old.count index (code_by v z t) reader.old.left) }
-    ensures counts { IfOk result (λ number. (v : Counts) (z t : ℕ) → 0 < t → HasSettings v run.bits run.limit run.rescaling.size
-        → of_band v.bands z ≡ band.old.statistics → counted v z t number ≡ with_band v z band.new.statistics) }
-    ensures tracked { IsTracked run band.new }
+    ensures reads { (v : CoderState) (z t : ℕ) → 0 < t → HasSettings v settings.bits settings.limit settings.rescaling.size → of_band v.bands z ≡ band.old.statistics
+        → Reads (λ residual. residual) result reader.new.left (word_at reader.old.count index (code_by v z t) reader.old.left) }
+    ensures counts { IfOk result (λ residual. (v : CoderState) (z t : ℕ) → 0 < t → HasSettings v settings.bits settings.limit settings.rescaling.size
+        → of_band v.bands z ≡ band.old.statistics → counted v z t residual ≡ with_band v z band.new.statistics) }
+    ensures state { IsBandState settings band.new }
     ensures count { reader.new.count ≡ reader.old.count }
     ensures same { OnErr result ((reader.new ≡ reader.old) × (band.new.statistics ≡ band.old.statistics)) }
-    ensures settled { OnErr result (band.new.low ≡ code_parameter run.bits band.old.statistics) }
+    ensures updated { OnErr result (band.new.k ≡ code_parameter settings.bits band.old.statistics) }
 {
-    band.settle(run);
+    band.update_k(settings);
     let code = Code {
-        limit: run.limit,
-        low: band.low,
-        bits: run.bits,
+        limit: settings.limit,
+        k: band.k,
+        bits: settings.bits,
     };
-    let number = take_from(code, index, word, reader)?;
-    band.count(run, number);
-    Ok(number)
+    let residual = take_from(code, index, word, reader)?;
+    band.count(settings, residual);
+    Ok(residual)
 }
 
-/// Does what `take_column` does, where all numbers are the first of their bands or none is.
+/// `take_column` for residuals that are either all the first of their bands or none of them.
 #[inline(always)]
 fn take_each(
-    run: RunCodes,
+    settings: CodeSettings,
     z: usize,
     first: bool,
     index: u64,
-    bands: &mut [Tracked],
+    bands: &mut [BandState],
     reader: &mut BitReader,
-    numbers: &mut [u16],
+    residuals: &mut [u16],
 ) -> Result<(), Fault>
-    requires tracked { AreTracked run bands.old }
-    requires inside { z + length numbers.old ≤ length bands.old }
-    requires long { (length numbers.old ≤ 2 ^ 16) × (index < 2 ^ 49) }
-    ensures taken { (v : Counts) (b t k : ℕ) → z ≡ b + k → first ≡ (t == 0) → v.bands ≡ statistics_of bands.old
-        → HasSettings v run.bits run.limit run.rescaling.size
-        → GetsEach (λ i. b + i) (λ i. t) k index result v reader.old (record v { bands = statistics_of bands.new }) reader.new.left numbers.new }
-    ensures tracked { AreTracked run bands.new }
+    requires state { AreBandStates settings bands.old }
+    requires inside { z + length residuals.old ≤ length bands.old }
+    requires long { (length residuals.old ≤ 2 ^ 16) × (index < 2 ^ 49) }
+    ensures taken { (v : CoderState) (b t k : ℕ) → z ≡ b + k → first ≡ (t == 0) → v.bands ≡ statistics_of bands.old
+        → HasSettings v settings.bits settings.limit settings.rescaling.size
+        → GetsEach (λ i. b + i) (λ i. t) k index result v reader.old (record v { bands = statistics_of bands.new }) reader.new.left residuals.new }
+    ensures state { AreBandStates settings bands.new }
     ensures count { reader.new.count ≡ reader.old.count }
-    ensures long { length numbers.new ≡ length numbers.old }
+    ensures long { length residuals.new ≡ length residuals.old }
     ensures bands { length bands.new ≡ length bands.old }
 {
-    for i in 0..numbers.len() {
-        let tracked = &mut bands[z + i];
-        match take_number(run, first, index + i as u64, tracked, reader) {
-            Ok(number) => numbers[i] = number,
+    for i in 0..residuals.len() {
+        let state = &mut bands[z + i];
+        match take_residual(settings, first, index + i as u64, state, reader) {
+            Ok(residual) => residuals[i] = residual,
             Err(fault) => return Err(fault),
         }
     }
     Ok(())
 }
 
-/// Reads a band's number, whose code word comes next, and updates what is kept of the band unless the number is its first.
+/// Reads a band's residual, whose code word comes next, and updates the band's state unless the residual is its first.
 #[inline(always)]
-pub(crate) fn take_number(
-    run: RunCodes,
+pub(crate) fn take_residual(
+    settings: CodeSettings,
     first: bool,
     index: u64,
-    tracked: &mut Tracked,
+    state: &mut BandState,
     reader: &mut BitReader,
 ) -> Result<u16, Fault>
-    requires tracked { IsTracked run tracked.old }
-    ensures reads { (v : Counts) (z t : ℕ) → first ≡ (t == 0) → HasSettings v run.bits run.limit run.rescaling.size → of_band v.bands z ≡ tracked.old.statistics
-        → Reads (λ number. number) result reader.new.left (word_at reader.old.count index (code_by v z t) reader.old.left) }
-    ensures counts { IfOk result (λ number. (v : Counts) (z t : ℕ) → first ≡ (t == 0) → HasSettings v run.bits run.limit run.rescaling.size
-        → of_band v.bands z ≡ tracked.old.statistics → counted v z t number ≡ with_band v z tracked.new.statistics) }
-    ensures tracked { IsTracked run tracked.new }
-    ensures below { IfOk result (λ number. number < 2 ^ run.bits) }
+    requires state { IsBandState settings state.old }
+    ensures reads { (v : CoderState) (z t : ℕ) → first ≡ (t == 0) → HasSettings v settings.bits settings.limit settings.rescaling.size → of_band v.bands z ≡ state.old.statistics
+        → Reads (λ residual. residual) result reader.new.left (word_at reader.old.count index (code_by v z t) reader.old.left) }
+    ensures counts { IfOk result (λ residual. (v : CoderState) (z t : ℕ) → first ≡ (t == 0) → HasSettings v settings.bits settings.limit settings.rescaling.size
+        → of_band v.bands z ≡ state.old.statistics → counted v z t residual ≡ with_band v z state.new.statistics) }
+    ensures state { IsBandState settings state.new }
+    ensures below { IfOk result (λ residual. residual < 2 ^ settings.bits) }
     ensures count { reader.new.count ≡ reader.old.count }
     ensures same { OnErr result (reader.new ≡ reader.old) }
     ensures indexed { IfErr result (λ fault. fault_at index fault ≡ fault) }
@@ -236,18 +236,18 @@ pub(crate) fn take_number(
     if first {
         let code = Code {
             limit: 0,
-            low: 0,
-            bits: run.bits,
+            k: 0,
+            bits: settings.bits,
         };
         return take_word(code, index, reader);
     }
-    tracked.settle(run);
+    state.update_k(settings);
     let code = Code {
-        limit: run.limit,
-        low: tracked.low,
-        bits: run.bits,
+        limit: settings.limit,
+        k: state.k,
+        bits: settings.bits,
     };
-    let number = take_word(code, index, reader)?;
-    tracked.count(run, number);
-    Ok(number)
+    let residual = take_word(code, index, reader)?;
+    state.count(settings, residual);
+    Ok(residual)
 }

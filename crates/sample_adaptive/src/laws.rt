@@ -13,12 +13,12 @@ pub fn one_word()
     ensures { OneWord }
 {}
 
-/// No body is a prefix of the body of another list of as many numbers.
+/// No body is a prefix of the body of another list of as many residuals.
 pub fn one_body()
     ensures { OneBody }
 {}
 
-/// A number is read exactly where the bits begin with its code word.
+/// A residual is read exactly where the bits begin with its code word.
 pub fn word_is_read()
     ensures { WordIsRead }
 {}
@@ -28,12 +28,12 @@ pub fn truncated_is_no_form()
     ensures { TruncatedIsNoForm }
 {}
 
-/// Bits that are refused as `BadCode` begin with a form of a code word that no number has.
+/// Bits that are refused as `BadCode` begin with a form of a code word that no residual has.
 pub fn bad_code_is_no_word()
     ensures { BadCodeIsNoWord }
 {}
 
-/// The numbers of a body are read exactly where the bits begin with the body.
+/// The residuals of a body are read exactly where the bits begin with the body.
 pub fn body_is_read()
     ensures { BodyIsRead }
 {}

@@ -6,12 +6,12 @@ ghost use Rattle.cube_core.specs.declared.fault.Fault.TheVariants.{WantOfMemory}
 ghost use Rattle.sample_adaptive.specs.Statistics.{next_statistics, code_parameter};
 ghost use Rattle.header_bits.specs.Bits.{bits_of};
 ghost use Rattle.sample_adaptive.specs.Words.{code_word};
-ghost use Rattle.sample_adaptive.specs.Taken.{Counts, HasSettings, Writes, GetsEach, GetsRun, Reaches, of_band, with_band};
-ghost use Rattle.sample_adaptive.specs.Tracked.{IsTracked};
+ghost use Rattle.sample_adaptive.specs.Taken.{CoderState, HasSettings, Writes, GetsEach, GetsRun, Reaches, of_band, with_band};
+ghost use Rattle.sample_adaptive.specs.BandStates.{IsBandState};
 
+use crate::band_state::BandState;
+use crate::code_settings::CodeSettings;
 use crate::code_word::{Code, Word, push_both, take_from, take_word, word_of};
-use crate::run_codes::RunCodes;
-use crate::tracked::Tracked;
 use cube_core::fault::Fault;
 use header_bits::bit_reader::BitReader;
 use header_bits::bit_writer::BitWriter;
@@ -22,73 +22,73 @@ const MOST_BITS: u64 = 48;
 /// Numbers of one band, none of which is its first, what their code words depend on, and what is kept of the band.
 #[derive(Clone, Copy)]
 pub(crate) struct LaterRun<'a> {
-    pub codes: RunCodes,
-    pub tracked: Tracked,
-    pub numbers: &'a [u16],
+    pub settings: CodeSettings,
+    pub state: BandState,
+    pub residuals: &'a [u16],
 }
 
-/// Appends the code words of a run, for which the writer has room, and returns what is kept of the band after it.
+/// Appends the code words of a run, for which the writer has room, and returns the band's state after it.
 ///
-/// The writer and what is kept are passed by value, so that both can stay in registers.
+/// The writer and the state are passed by value, so that both can stay in registers.
 #[inline(always)]
-pub(crate) fn put_words(writer: BitWriter, run: LaterRun) -> (BitWriter, Tracked)
-    requires tracked { IsTracked run.codes run.tracked }
-    requires numbers { AllByRecursion (λ n. n < 2 ^ run.codes.bits) run.numbers.now }
-    requires room { 48 * length run.numbers.now ≤ writer.room }
-    ensures written { (v : Counts) (z t k : ℕ) → z < length v.bands → HasSettings v run.entry.codes.bits run.entry.codes.limit run.entry.codes.rescaling.size
-        → of_band v.bands z ≡ run.entry.tracked.statistics → 0 < t + k
-        → Writes (λ i. z) (λ i. t + i) k run.entry.numbers.now v writer.bits (with_band v z result.1.statistics) result.0.bits }
-    ensures tracked { IsTracked run.entry.codes result.1 }
+pub(crate) fn put_words(writer: BitWriter, run: LaterRun) -> (BitWriter, BandState)
+    requires state { IsBandState run.settings run.state }
+    requires residuals { AllByRecursion (λ n. n < 2 ^ run.settings.bits) run.residuals.now }
+    requires room { 48 * length run.residuals.now ≤ writer.room }
+    ensures written { (v : CoderState) (z t k : ℕ) → z < length v.bands → HasSettings v run.entry.settings.bits run.entry.settings.limit run.entry.settings.rescaling.size
+        → of_band v.bands z ≡ run.entry.state.statistics → 0 < t + k
+        → Writes (λ i. z) (λ i. t + i) k run.entry.residuals.now v writer.bits (with_band v z result.1.statistics) result.0.bits }
+    ensures state { IsBandState run.entry.settings result.1 }
     ensures still { result.0.room ≤ writer.room }
 {
     let mut writer = writer;
-    let mut tracked = run.tracked;
-    let codes = run.codes;
-    let numbers = run.numbers;
+    let mut state = run.state;
+    let settings = run.settings;
+    let residuals = run.residuals;
     let mut i = 0;
-    while i + 1 < numbers.len() {
-        let first = word_within(codes, tracked, numbers[i]);
-        let second = word_within(codes, first.1, numbers[i + 1]);
+    while i + 1 < residuals.len() {
+        let first = word_within(settings, state, residuals[i]);
+        let second = word_within(settings, first.1, residuals[i + 1]);
         push_both(first.0, second.0, &mut writer);
-        tracked = second.1;
+        state = second.1;
         i += 2;
     }
-    if i == numbers.len() {
-        return (writer, tracked);
+    if i == residuals.len() {
+        return (writer, state);
     }
-    let last = word_within(codes, tracked, numbers[i]);
+    let last = word_within(settings, state, residuals[i]);
     writer.push_reserved(last.0.bits, last.0.length);
     (writer, last.1)
 }
 
-/// Returns the code word of the next number of a run, and what is kept of the band after it.
+/// Returns the code word of the next residual of a run, and the band's state after it.
 #[inline(always)]
-fn word_within(run: RunCodes, tracked: Tracked, number: u16) -> (Word, Tracked)
-    requires tracked { IsTracked run tracked }
-    requires number { number < 2 ^ run.bits }
+fn word_within(settings: CodeSettings, state: BandState, residual: u16) -> (Word, BandState)
+    requires state { IsBandState settings state }
+    requires residual { residual < 2 ^ settings.bits }
     ensures word { bits_of result.0.length result.0.bits ≡ code_word (record {
-      limit = run.limit;
-      low = code_parameter run.bits tracked.statistics;
-      bits = run.bits;
-    }) number }
+      limit = settings.limit;
+      k = code_parameter settings.bits state.statistics;
+      bits = settings.bits;
+    }) residual }
     ensures below { result.0.bits < 2 ^ result.0.length }
     ensures few { result.0.length ≤ 48 }
-    ensures next { result.1.statistics ≡ next_statistics run.rescaling.size tracked.statistics number }
-    ensures tracked { IsTracked run result.1 }
+    ensures next { result.1.statistics ≡ next_statistics settings.rescaling.size state.statistics residual }
+    ensures state { IsBandState settings result.1 }
 {
-    let mut next = tracked;
-    next.settle(run);
+    let mut next = state;
+    next.update_k(settings);
     let code = Code {
-        limit: run.limit,
-        low: next.low,
-        bits: run.bits,
+        limit: settings.limit,
+        k: next.k,
+        bits: settings.bits,
     };
-    let word = word_of(code, number);
-    next.count(run, number);
+    let word = word_of(code, residual);
+    next.count(settings, residual);
     (word, next)
 }
 
-/// Reserves room for so many code words. The room grows to that, in whole bytes, or to as many bits as are written if these are more.
+/// Reserves room for `words` code words. The room grows to that, in whole bytes, or to as many bits as are written if these are more.
 pub(crate) fn make_room(words: usize, writer: &mut BitWriter) -> Result<(), Fault>
     requires few { words ≤ 2 ^ 16 }
     ensures same { writer.new.bits ≡ writer.old.bits }
@@ -100,148 +100,148 @@ pub(crate) fn make_room(words: usize, writer: &mut BitWriter) -> Result<(), Faul
     writer.reserve(MOST_BITS * words as u64)
 }
 
-/// Reads numbers `t`, `t + 1`, .. of a band, whose code words come next, and updates what is kept of it.
+/// Reads residuals `t`, `t + 1`, .. of a band, whose code words come next, and updates its state.
 ///
-/// After a refusal the reader's position and what is kept are unspecified.
+/// After a refusal the reader's position and the state are unspecified.
 #[inline(always)]
 pub(crate) fn take_words(
-    run: RunCodes,
+    settings: CodeSettings,
     t: u64,
     index: u64,
-    tracked: &mut Tracked,
+    state: &mut BandState,
     reader: &mut BitReader,
-    numbers: &mut [u16],
+    residuals: &mut [u16],
 ) -> Result<(), Fault>
-    requires tracked { IsTracked run tracked.old }
-    requires long { (length numbers.old ≤ 2 ^ 16) × (index < 2 ^ 48) }
-    ensures taken { (v : Counts) (z : ℕ) → z < length v.bands → HasSettings v run.bits run.limit run.rescaling.size → of_band v.bands z ≡ tracked.old.statistics
-        → GetsRun z t index result v reader.old (with_band v z tracked.new.statistics) reader.new.left numbers.new }
-    ensures tracked { IsTracked run tracked.new }
+    requires state { IsBandState settings state.old }
+    requires long { (length residuals.old ≤ 2 ^ 16) × (index < 2 ^ 48) }
+    ensures taken { (v : CoderState) (z : ℕ) → z < length v.bands → HasSettings v settings.bits settings.limit settings.rescaling.size → of_band v.bands z ≡ state.old.statistics
+        → GetsRun z t index result v reader.old (with_band v z state.new.statistics) reader.new.left residuals.new }
+    ensures state { IsBandState settings state.new }
     ensures count { reader.new.count ≡ reader.old.count }
-    ensures long { length numbers.new ≡ length numbers.old }
+    ensures long { length residuals.new ≡ length residuals.old }
 {
     if t >= 1 {
-        return take_later(run, index, tracked, reader, numbers);
+        return take_later(settings, index, state, reader, residuals);
     }
-    match numbers.split_first_mut() {
+    match residuals.split_first_mut() {
         Some((first, later)) => {
             let code = Code {
                 limit: 0,
-                low: 0,
-                bits: run.bits,
+                k: 0,
+                bits: settings.bits,
             };
             *first = take_word(code, index, reader)?;
-            take_later(run, index + 1, tracked, reader, later)
+            take_later(settings, index + 1, state, reader, later)
         }
         None => Ok(()),
     }
 }
 
-/// Reads numbers of a band, none of which is its first, and updates what is kept of it.
+/// Reads residuals of a band, none of which is its first, and updates its state.
 #[inline(always)]
 fn take_later(
-    run: RunCodes,
+    settings: CodeSettings,
     index: u64,
-    tracked: &mut Tracked,
+    state: &mut BandState,
     reader: &mut BitReader,
-    numbers: &mut [u16],
+    residuals: &mut [u16],
 ) -> Result<(), Fault>
-    requires tracked { IsTracked run tracked.old }
-    requires long { (length numbers.old ≤ 2 ^ 16) × (index ≤ 2 ^ 48) }
-    ensures taken { (v : Counts) (z t k : ℕ) → z < length v.bands → HasSettings v run.bits run.limit run.rescaling.size
-        → of_band v.bands z ≡ tracked.old.statistics → 0 < t + k
-        → GetsEach (λ i. z) (λ i. t + i) k index result v reader.old (with_band v z tracked.new.statistics) reader.new.left numbers.new }
-    ensures tracked { IsTracked run tracked.new }
+    requires state { IsBandState settings state.old }
+    requires long { (length residuals.old ≤ 2 ^ 16) × (index ≤ 2 ^ 48) }
+    ensures taken { (v : CoderState) (z t k : ℕ) → z < length v.bands → HasSettings v settings.bits settings.limit settings.rescaling.size
+        → of_band v.bands z ≡ state.old.statistics → 0 < t + k
+        → GetsEach (λ i. z) (λ i. t + i) k index result v reader.old (with_band v z state.new.statistics) reader.new.left residuals.new }
+    ensures state { IsBandState settings state.new }
     ensures count { reader.new.count ≡ reader.old.count }
-    ensures long { length numbers.new ≡ length numbers.old }
+    ensures long { length residuals.new ≡ length residuals.old }
 {
-    let done = take_ready(run, index, tracked, reader, numbers);
-    if done == numbers.len() {
+    let done = take_ready(settings, index, state, reader, residuals);
+    if done == residuals.len() {
         return Ok(());
     }
     take_rest(
-        run,
+        settings,
         index + done as u64,
-        tracked,
+        state,
         reader,
-        &mut numbers[done..],
+        &mut residuals[done..],
     )
 }
 
-/// Reads numbers of a band, none of which is its first, as long as 57 bits are left and begin with a code word. Returns how
-/// many, and updates what is kept of the band.
+/// Reads residuals of a band, none of which is its first, as long as 57 bits are left and begin with a code word. Returns how
+/// many, and updates the band's state.
 ///
 /// A loop that refuses nothing keeps all that it changes in registers.
 #[inline(always)]
 fn take_ready(
-    run: RunCodes,
+    settings: CodeSettings,
     index: u64,
-    tracked: &mut Tracked,
+    state: &mut BandState,
     reader: &mut BitReader,
-    numbers: &mut [u16],
+    residuals: &mut [u16],
 ) -> usize
-    requires tracked { IsTracked run tracked.old }
-    requires long { (length numbers.old ≤ 2 ^ 16) × (index ≤ 2 ^ 48) }
-    ensures taken { (v : Counts) (z t k : ℕ) → z < length v.bands → HasSettings v run.bits run.limit run.rescaling.size
-        → of_band v.bands z ≡ tracked.old.statistics → 0 < t + k
-        → Reaches (λ i. z) (λ i. t + i) k index result v (with_band v z tracked.new.statistics) reader.old reader.new numbers.new }
-    ensures tracked { IsTracked run tracked.new }
-    ensures within { result ≤ length numbers.new }
+    requires state { IsBandState settings state.old }
+    requires long { (length residuals.old ≤ 2 ^ 16) × (index ≤ 2 ^ 48) }
+    ensures taken { (v : CoderState) (z t k : ℕ) → z < length v.bands → HasSettings v settings.bits settings.limit settings.rescaling.size
+        → of_band v.bands z ≡ state.old.statistics → 0 < t + k
+        → Reaches (λ i. z) (λ i. t + i) k index result v (with_band v z state.new.statistics) reader.old reader.new residuals.new }
+    ensures state { IsBandState settings state.new }
+    ensures within { result ≤ length residuals.new }
     ensures count { reader.new.count ≡ reader.old.count }
-    ensures long { length numbers.new ≡ length numbers.old }
+    ensures long { length residuals.new ≡ length residuals.old }
 {
-    let mut band = *tracked;
+    let mut band = *state;
     let mut ahead = reader.fork();
     let mut i = 0;
-    while i < numbers.len() {
+    while i < residuals.len() {
         let Some(word) = ahead.peek() else { break };
-        band.settle(run);
+        band.update_k(settings);
         let code = Code {
-            limit: run.limit,
-            low: band.low,
-            bits: run.bits,
+            limit: settings.limit,
+            k: band.k,
+            bits: settings.bits,
         };
-        let Ok(number) = take_from(code, index + i as u64, word, &mut ahead) else {
+        let Ok(residual) = take_from(code, index + i as u64, word, &mut ahead) else {
             break
         };
-        numbers[i] = number;
-        band.count(run, number);
+        residuals[i] = residual;
+        band.count(settings, residual);
         i += 1;
     }
     *reader = ahead;
-    *tracked = band;
+    *state = band;
     i
 }
 
-/// Does what `take_later` does, where fewer bits are left or a number is refused.
+/// `take_later`, word by word and with fewer than 57 bits left, too; it names the fault of a refused residual.
 #[inline(never)]
 fn take_rest(
-    run: RunCodes,
+    settings: CodeSettings,
     index: u64,
-    tracked: &mut Tracked,
+    state: &mut BandState,
     reader: &mut BitReader,
-    numbers: &mut [u16],
+    residuals: &mut [u16],
 ) -> Result<(), Fault>
-    requires tracked { IsTracked run tracked.old }
-    requires long { (length numbers.old ≤ 2 ^ 16) × (index ≤ 2 ^ 49) }
-    ensures taken { (v : Counts) (z t k : ℕ) → z < length v.bands → HasSettings v run.bits run.limit run.rescaling.size
-        → of_band v.bands z ≡ tracked.old.statistics → 0 < t + k
-        → GetsEach (λ i. z) (λ i. t + i) k index result v reader.old (with_band v z tracked.new.statistics) reader.new.left numbers.new }
-    ensures tracked { IsTracked run tracked.new }
+    requires state { IsBandState settings state.old }
+    requires long { (length residuals.old ≤ 2 ^ 16) × (index ≤ 2 ^ 49) }
+    ensures taken { (v : CoderState) (z t k : ℕ) → z < length v.bands → HasSettings v settings.bits settings.limit settings.rescaling.size
+        → of_band v.bands z ≡ state.old.statistics → 0 < t + k
+        → GetsEach (λ i. z) (λ i. t + i) k index result v reader.old (with_band v z state.new.statistics) reader.new.left residuals.new }
+    ensures state { IsBandState settings state.new }
     ensures count { reader.new.count ≡ reader.old.count }
-    ensures long { length numbers.new ≡ length numbers.old }
+    ensures long { length residuals.new ≡ length residuals.old }
 {
-    for i in 0..numbers.len() {
-        tracked.settle(run);
+    for i in 0..residuals.len() {
+        state.update_k(settings);
         let code = Code {
-            limit: run.limit,
-            low: tracked.low,
-            bits: run.bits,
+            limit: settings.limit,
+            k: state.k,
+            bits: settings.bits,
         };
         match take_word(code, index + i as u64, reader) {
-            Ok(number) => {
-                numbers[i] = number;
-                tracked.count(run, number);
+            Ok(residual) => {
+                residuals[i] = residual;
+                state.count(settings, residual);
             }
             Err(fault) => return Err(fault),
         }

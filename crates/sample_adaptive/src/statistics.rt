@@ -3,10 +3,10 @@
 ghost use Rattle.std.specs.Prelude.{◌≡◌, ◌+◌, ◌-◌, ◌*◌, ◌/◌, ◌^◌, ◌<◌, ◌≤◌};
 ghost use Rattle.sample_adaptive.specs.Statistics.{start_statistics, level as level_of, code_parameter};
 
-/// A band's statistics, by which its next number is coded (CCSDS 123.0-B-1, "Adaptive code selection statistics").
+/// A band's statistics, by which its next residual is coded (CCSDS 123.0-B-1, "Adaptive code selection statistics").
 #[derive(Clone, Copy, Debug, PartialEq, Eq)]
 pub struct Statistics {
-    /// Γ, how many numbers the accumulator stands for.
+    /// Γ, the number of residuals that count in the accumulator.
     pub counter: u32,
     /// Σ, their sum.
     pub accumulator: u32,
@@ -14,7 +14,7 @@ pub struct Statistics {
 
 /// When statistics are halved: once the counter is 2^γ* - 1.
 ///
-/// That number is kept, so that it isn't computed for each sample.
+/// That number is stored, so that it isn't computed for each sample.
 #[derive(Clone, Copy)]
 pub(crate) struct Rescaling {
     /// γ*, the rescaling counter size: 1 to 9.
@@ -51,25 +51,25 @@ pub(crate) fn first(gamma_zero: u32, constant: u32) -> Statistics
     }
 }
 
-/// Returns the statistics with one more number.
-pub(crate) fn counted(s: Statistics, number: u16) -> Statistics
+/// Returns the statistics with one more residual.
+pub(crate) fn counted(s: Statistics, residual: u16) -> Statistics
     requires { (s.counter < 2 ^ 31) × (s.accumulator < 2 ^ 31) }
-    ensures { result ≡ record { counter = s.counter + 1; accumulator = s.accumulator + number } }
+    ensures { result ≡ record { counter = s.counter + 1; accumulator = s.accumulator + residual } }
 {
     Statistics {
         counter: s.counter + 1,
-        accumulator: s.accumulator + u32::from(number),
+        accumulator: s.accumulator + u32::from(residual),
     }
 }
 
-/// Returns the statistics with one more number, both halved.
-pub(crate) fn halved(s: Statistics, number: u16) -> Statistics
+/// Returns the statistics with one more residual, both halved.
+pub(crate) fn halved(s: Statistics, residual: u16) -> Statistics
     requires { (s.counter < 2 ^ 31) × (s.accumulator < 2 ^ 31) }
-    ensures { result ≡ record { counter = (s.counter + 1) / 2; accumulator = (s.accumulator + number + 1) / 2 } }
+    ensures { result ≡ record { counter = (s.counter + 1) / 2; accumulator = (s.accumulator + residual + 1) / 2 } }
 {
     Statistics {
         counter: (s.counter + 1) / 2,
-        accumulator: (s.accumulator + u32::from(number) + 1) / 2,
+        accumulator: (s.accumulator + u32::from(residual) + 1) / 2,
     }
 }
 
@@ -81,7 +81,7 @@ pub(crate) fn level(s: Statistics) -> u32
     s.accumulator + 49 * s.counter / 128
 }
 
-/// Returns k, how many low bits of the next number its code word has as they are: at most D - 2.
+/// Returns k, the number of low bits of the next residual that its code word has as they are: at most D - 2.
 ///
 /// The greatest k with counter·2^k at most the level is found from the lengths of the two numbers, without trying each k.
 pub(crate) fn parameter(bits: u32, s: Statistics) -> u32

@@ -1,4 +1,4 @@
-//! The coder of one image: it keeps each band's statistics, writes numbers, and reads them back.
+//! The coder of one image: it writes residuals by the statistics of their bands, and reads them back.
 
 ghost use Rattle.std.specs.Prelude.{◌≡◌, ◌+◌, ◌*◌, ◌^◌, ◌<◌, ◌≤◌, ◌++◌, [], length, max, Err, Some, IsOk, IfOk, IfErr, OnOk, OnErr, ℕ};
 ghost use Rattle.std.specs.List.{AllByRecursion};
@@ -6,14 +6,14 @@ ghost use Rattle.cube_core.specs.declared.fault.Fault.{Fault};
 ghost use Rattle.cube_core.specs.declared.fault.Fault.TheVariants.{WantOfMemory};
 ghost use Rattle.sample_adaptive.specs.Settings.{AreForSamples, HasEntries, settings};
 ghost use Rattle.sample_adaptive.specs.Statistics.{constant_of, start_statistics};
-ghost use Rattle.sample_adaptive.specs.Taken.{Counts, HasTaken, HasSettings, PutsNumber, PutsRun, GetsRun, Writes, WritesRun, code_by, counted, of_band};
-ghost use Rattle.sample_adaptive.specs.Tracked.{AreTracked, statistics_of};
+ghost use Rattle.sample_adaptive.specs.Taken.{CoderState, HasTaken, HasSettings, PutsResidual, PutsRun, GetsRun, Writes, WritesRun, code_by, counted, of_band};
+ghost use Rattle.sample_adaptive.specs.BandStates.{AreBandStates, statistics_of};
 ghost use Rattle.sample_adaptive.specs.Words.{code_word};
 
-use crate::run_codes::RunCodes;
+use crate::band_state::BandState;
+use crate::code_settings::CodeSettings;
 use crate::run_words::{LaterRun, make_room, put_words, take_words};
 use crate::statistics::{Rescaling, first};
-use crate::tracked::Tracked;
 use crate::written_column::next_word;
 use core::mem::replace_with;
 use cube_core::fault::Fault;
@@ -23,34 +23,34 @@ use header_bits::params::{Coder, CountStart, Params};
 use std::alloc::Global;
 use std::marker::Model;
 
-/// The sample-adaptive coder of one image, which takes the numbers of each band in turn.
+/// The sample-adaptive coder of one image, which takes the residuals of each band in turn.
 #[derive(Drop)]
 pub struct Stats {
-    pub(crate) codes: RunCodes,
-    pub(crate) bands: Vec<Tracked>,
+    pub(crate) settings: CodeSettings,
+    pub(crate) bands: Vec<BandState>,
     /// The fault for which a read was refused, if one was: every later read is refused for the same.
     pub(crate) refused: Option<Fault>,
 }
 
 impl Model for Stats {
-    ghost use Rattle.sample_adaptive.specs.Taken.{Counts};
-    ghost use Rattle.sample_adaptive.specs.Tracked.{AreTracked, statistics_of};
+    ghost use Rattle.sample_adaptive.specs.Taken.{CoderState};
+    ghost use Rattle.sample_adaptive.specs.BandStates.{AreBandStates, statistics_of};
 
-    ghost Value = { Counts };
+    ghost Value = { CoderState };
 
     ghost view = { λ s. record {
-      bits = s.codes.bits;
-      umax = s.codes.limit;
-      gamma_star = s.codes.rescaling.size;
+      bits = s.settings.bits;
+      umax = s.settings.limit;
+      gamma_star = s.settings.rescaling.size;
       bands = statistics_of s.bands.items;
       refused = s.refused;
     } };
 
-    ghost invariant = { λ s. AreTracked s.codes s.bands.items };
+    ghost invariant = { λ s. AreBandStates s.settings s.bands.items };
 }
 
 impl Stats {
-    /// Returns the coder of an image, which has taken no number.
+    /// Returns the coder of an image, which has taken no residual.
     ///
     /// The parameters are lawful, and name this coder. Returns `WantOfMemory` if the statistics of all bands can't be
     /// allocated.
@@ -67,14 +67,20 @@ impl Stats {
                 gamma_zero,
                 start,
             } => {
-                let codes = RunCodes {
+                let settings = CodeSettings {
                     limit: *umax,
                     bits: params.kind.bits(),
                     rescaling: Rescaling::of(*gamma_star),
                 };
-                let bands = first_of_all(alloc, codes, *gamma_zero, start, params.shape.bands())?;
+                let bands = first_of_all(
+                    alloc,
+                    settings,
+                    *gamma_zero,
+                    start,
+                    params.shape.bands(),
+                )?;
                 Ok(Stats {
-                    codes,
+                    settings,
                     bands,
                     refused: None,
                 })
@@ -83,17 +89,17 @@ impl Stats {
         }
     }
 
-    /// Appends the code word of number `t` of band `z`, and updates the band's statistics.
+    /// Appends the code word of residual `t` of band `z`, and updates the band's statistics.
     ///
-    /// `z` is below the number of bands, `t` counts the band's numbers from 0, and the number is at most 2^D - 1. The word has at
+    /// `z` is below the number of bands, `t` counts the band's residuals from 0, and the residual is at most 2^D - 1. The word has at
     /// most 48 bits and is pushed at once; it succeeds where the writer has room for 48 bits. Returns `WantOfMemory` if an
     /// allocation fails, or if there would be more than 2^63 bits; then nothing was changed. Earlier refusals of reads don't
     /// matter to it.
     #[inline(always)]
     pub fn put(&mut self, z: u32, t: u64, delta: u16, writer: &mut BitWriter) -> Result<(), Fault>
         requires band { z < length self.old.bands }
-        requires number { delta < 2 ^ self.old.bits }
-        ensures taken { OnOk result (PutsNumber z t delta self.old writer.old.bits self.new writer.new.bits) }
+        requires residual { delta < 2 ^ self.old.bits }
+        ensures taken { OnOk result (PutsResidual z t delta self.old writer.old.bits self.new writer.new.bits) }
         ensures written { OnOk result (writer.new.bits ≡ writer.old.bits ++ code_word (code_by self.old z t) delta) }
         ensures counted { OnOk result (self.new ≡ counted self.old z t delta) }
         ensures same { OnErr result ((self.new ≡ self.old) × (writer.new.bits ≡ writer.old.bits)) }
@@ -105,41 +111,41 @@ impl Stats {
         ensures bands { (length self.new.bands ≡ length self.old.bands) × (self.new.bits ≡ self.old.bits) }
     {
         let mut band = self.bands[z as usize];
-        let word = next_word(self.codes, t == 0, &mut band, delta);
+        let word = next_word(self.settings, t == 0, &mut band, delta);
         writer.push(word.bits, word.length)?;
         self.bands[z as usize] = band;
         Ok(())
     }
 
-    /// Appends the code words of numbers `t`, `t + 1`, .. of band `z`, and updates the band's statistics.
+    /// Appends the code words of residuals `t`, `t + 1`, .. of band `z`, and updates the band's statistics.
     ///
-    /// `z` is below the number of bands, and `t` counts the band's numbers from 0. The run is within a row, so it has at most
-    /// 65,536 numbers, and each is at most 2^D - 1. Returns `WantOfMemory` if an allocation fails, or if there would be more than
-    /// 2^63 bits; then nothing was changed. It succeeds where the writer has room for 48 bits a number. Earlier refusals of reads
+    /// `z` is below the number of bands, and `t` counts the band's residuals from 0. The run is within a row, so it has at most
+    /// 65,536 residuals, and each is at most 2^D - 1. Returns `WantOfMemory` if an allocation fails, or if there would be more than
+    /// 2^63 bits; then nothing was changed. It succeeds where the writer has room for 48 bits a residual. Earlier refusals of reads
     /// don't matter to it.
     #[inline]
     pub fn put_run(
         &mut self,
         z: u32,
         t: u64,
-        numbers: &[u16],
+        residuals: &[u16],
         writer: &mut BitWriter,
     ) -> Result<(), Fault>
         requires band { z < length self.old.bands }
-        requires numbers { AllByRecursion (λ n. n < 2 ^ self.old.bits) numbers.now }
-        requires long { (length numbers.now ≤ 2 ^ 16) × (t < 2 ^ 48) }
-        ensures taken { OnOk result (PutsRun z t numbers.now self.old writer.old.bits self.new writer.new.bits) }
-        ensures written { OnOk result (WritesRun z t numbers.now self.old writer.old.bits self.new writer.new.bits) }
+        requires residuals { AllByRecursion (λ n. n < 2 ^ self.old.bits) residuals.now }
+        requires long { (length residuals.now ≤ 2 ^ 16) × (t < 2 ^ 48) }
+        ensures taken { OnOk result (PutsRun z t residuals.now self.old writer.old.bits self.new writer.new.bits) }
+        ensures written { OnOk result (WritesRun z t residuals.now self.old writer.old.bits self.new writer.new.bits) }
         ensures same { OnErr result ((self.new ≡ self.old) × (writer.new.bits ≡ writer.old.bits)) }
-        ensures within { 48 * length numbers.now ≤ writer.old.room → IsOk result }
-        ensures bounded { writer.new.room ≤ max writer.old.room (max (48 * length numbers.now + 7) (length writer.old.bits)) }
+        ensures within { 48 * length residuals.now ≤ writer.old.room → IsOk result }
+        ensures bounded { writer.new.room ≤ max writer.old.room (max (48 * length residuals.now + 7) (length writer.old.bits)) }
         ensures refused { IfErr result (λ e. e ≡ WantOfMemory) }
         ensures bands { (length self.new.bands ≡ length self.old.bands) × (self.new.bits ≡ self.old.bits) }
     {
-        make_room(numbers.len(), writer)?;
+        make_room(residuals.len(), writer)?;
         if t >= 1 {
-            self.put_later(z, numbers, writer);
-        } else if let Some((first, later)) = numbers.split_first() {
+            self.put_later(z, residuals, writer);
+        } else if let Some((first, later)) = residuals.split_first() {
             let Ok(()) = self.put(z, 0, *first, writer) else {
                 unreachable!()
             };
@@ -148,31 +154,31 @@ impl Stats {
         Ok(())
     }
 
-    /// Appends the code words of numbers of band `z`, none of which is its first. The writer has room for them.
+    /// Appends the code words of residuals of band `z`, none of which is its first. The writer has room for them.
     #[inline(always)]
-    fn put_later(&mut self, z: u32, numbers: &[u16], writer: &mut BitWriter)
+    fn put_later(&mut self, z: u32, residuals: &[u16], writer: &mut BitWriter)
         requires band { z < length self.old.bands }
-        requires numbers { AllByRecursion (λ n. n < 2 ^ self.old.bits) numbers.now }
-        requires room { 48 * length numbers.now ≤ writer.old.room }
+        requires residuals { AllByRecursion (λ n. n < 2 ^ self.old.bits) residuals.now }
+        requires room { 48 * length residuals.now ≤ writer.old.room }
         ensures still { writer.new.room ≤ writer.old.room }
-        ensures written { (t k : ℕ) → 0 < t + k → Writes (λ i. z) (λ i. t + i) k numbers.now self.old writer.old.bits self.new writer.new.bits }
+        ensures written { (t k : ℕ) → 0 < t + k → Writes (λ i. z) (λ i. t + i) k residuals.now self.old writer.old.bits self.new writer.new.bits }
         ensures bands { (length self.new.bands ≡ length self.old.bands) × (self.new.bits ≡ self.old.bits) }
     {
         let run = LaterRun {
-            codes: self.codes,
-            tracked: self.bands[z as usize],
-            numbers,
+            settings: self.settings,
+            state: self.bands[z as usize],
+            residuals,
         };
         self.bands[z as usize] = replace_with(writer, run, put_words);
     }
 
-    /// Reads numbers `t`, `t + 1`, .. of band `z`, whose code words come next, into `numbers`, and updates the band's
+    /// Reads residuals `t`, `t + 1`, .. of band `z`, whose code words come next, into `residuals`, and updates the band's
     /// statistics.
     ///
-    /// `t` counts the band's numbers from 0, and the first is at `index` in encoding order. The run is within
-    /// a row, so it has at most 65,536 numbers. Where a number is refused, it returns the fault that `get` returns, but
-    /// `BadCode` has the number's index in encoding order. Then the reader keeps its position, every later read returns
-    /// the same, nothing else was changed, and what is in `numbers` is unspecified.
+    /// `t` counts the band's residuals from 0, and the first is at `index` in encoding order. The run is within
+    /// a row, so it has at most 65,536 residuals. Where a residual is refused, it returns the fault that `get` returns, but
+    /// `BadCode` has the residual's index in encoding order. Then the reader keeps its position, every later read returns
+    /// the same, nothing else was changed, and what is in `residuals` is unspecified.
     #[inline]
     pub fn get_run(
         &mut self,
@@ -180,16 +186,16 @@ impl Stats {
         t: u64,
         index: u64,
         reader: &mut BitReader,
-        numbers: &mut [u16],
+        residuals: &mut [u16],
     ) -> Result<(), Fault>
         requires band { z < length self.old.bands }
-        requires long { (length numbers.old ≤ 2 ^ 16) × (index < 2 ^ 48) }
-        ensures taken { GetsRun z t index result self.old reader.old self.new reader.new.left numbers.new }
+        requires long { (length residuals.old ≤ 2 ^ 16) × (index < 2 ^ 48) }
+        ensures taken { GetsRun z t index result self.old reader.old self.new reader.new.left residuals.new }
         ensures again { (fault : Fault) → self.old.refused ≡ Some fault → result ≡ Err fault }
         ensures kept { IfErr result (λ fault. self.new ≡ record self.old { refused = Some fault }) }
         ensures same { OnErr result (reader.new ≡ reader.old) }
         ensures count { reader.new.count ≡ reader.old.count }
-        ensures long { length numbers.new ≡ length numbers.old }
+        ensures long { length residuals.new ≡ length residuals.old }
         ensures bands { (length self.new.bands ≡ length self.old.bands) × (self.new.bits ≡ self.old.bits) }
     {
         if let Some(fault) = self.refused {
@@ -198,7 +204,7 @@ impl Stats {
         // Copies go ahead: they stay in registers, and a refusal leaves what they were made of.
         let mut band = self.bands[z as usize];
         let mut ahead = reader.fork();
-        match take_words(self.codes, t, index, &mut band, &mut ahead, numbers) {
+        match take_words(self.settings, t, index, &mut band, &mut ahead, residuals) {
             Ok(()) => {
                 self.bands[z as usize] = band;
                 *reader = ahead;
@@ -212,31 +218,31 @@ impl Stats {
     }
 }
 
-/// Returns what is kept of `count` bands before their first numbers.
+/// Returns the states of `count` bands before their first residuals.
 fn first_of_all(
     alloc: Global,
-    codes: RunCodes,
+    settings: CodeSettings,
     gamma_zero: u32,
     start: &CountStart,
     count: u32,
-) -> Result<Vec<Tracked>, Fault>
-    requires exponent { (gamma_zero ≤ 8) × (gamma_zero + 1 ≤ codes.rescaling.size) }
+) -> Result<Vec<BandState>, Fault>
+    requires exponent { (gamma_zero ≤ 8) × (gamma_zero + 1 ≤ settings.rescaling.size) }
     requires entries { HasEntries count start.now }
     requires constants { (z : ℕ) → z < count → constant_of start.now z ≤ 14 }
     ensures count { IfOk result (λ v. length v.items ≡ count) }
     ensures first { IfOk result (λ v. (z : ℕ) → z < count → of_band (statistics_of v.items) z ≡ start_statistics gamma_zero (constant_of start.now z)) }
-    ensures tracked { IfOk result (λ v. AreTracked codes v.items) }
+    ensures state { IfOk result (λ v. AreBandStates settings v.items) }
     ensures refused { IfErr result (λ e. e ≡ WantOfMemory) }
 {
     let mut bands = Vec::with_capacity(alloc, count as usize)?;
     for z in 0..count {
         let statistics = first(gamma_zero, constant(start, z));
-        bands.push(Tracked::of(codes, statistics))?;
+        bands.push(BandState::of(settings, statistics))?;
     }
     Ok(bands)
 }
 
-/// Returns K, the constant of band `z` that its accumulator starts from.
+/// Returns K, the accumulator initialization constant of band `z`.
 #[tactic(auto, unfolding(crate::specs::Statistics::constant_of))]
 fn constant(start: &CountStart, z: u32) -> u32
     requires { (count : ℕ) × HasEntries count start.now × (z < count) }

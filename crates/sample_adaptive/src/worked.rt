@@ -5,15 +5,15 @@
 ghost use Rattle.std.specs.Prelude.{◌≡◌, ◌∷◌, [], take};
 ghost use Rattle.header_bits.specs.Bits.{bits_of_bytes};
 ghost use Rattle.sample_adaptive.specs.Body.{sample_body};
-ghost use Rattle.header_bits.specs.Rows.{filled_up};
-ghost use Rattle.sample_adaptive.specs.Rows.{common, of_bits, short_limit, rescaling, with_table, bands_apart, bands_in_groups};
+ghost use Rattle.header_bits.specs.Examples.{filled_up};
+ghost use Rattle.sample_adaptive.specs.Examples.{common, of_bits, short_limit, rescaling, with_table, bands_apart, bands_in_groups};
 
-/// The first number of a band is written in D bits.
+/// The first residual of a band is written in D bits.
 pub fn one_sample()
     ensures { filled_up (sample_body common (bands_apart 1 1 1) (144 ∷ [])) ≡ bits_of_bytes (0x90 ∷ []) }
 {}
 
-/// A number after the first one has a code word: a one and three low bits.
+/// A residual after the first one has a code word: a one and three low bits.
 pub fn two_equal_samples()
     ensures { filled_up (sample_body common (bands_apart 1 2 1) (144 ∷ 0 ∷ [])) ≡ bits_of_bytes (0x90 ∷ 0x80 ∷ []) }
 {}
@@ -23,7 +23,7 @@ pub fn two_unlike_samples()
     ensures { filled_up (sample_body common (bands_apart 2 1 1) (144 ∷ 20 ∷ [])) ≡ bits_of_bytes (0x90 ∷ 0x30 ∷ []) }
 {}
 
-/// Each band has a first number.
+/// Each band has a first residual.
 pub fn first_of_each_band()
     ensures { filled_up (sample_body common (bands_apart 1 1 2) (144 ∷ 146 ∷ [])) ≡ bits_of_bytes (0x90 ∷ 0x92 ∷ []) }
 {}
@@ -38,12 +38,12 @@ pub fn step_rounded_down()
     ensures { filled_up (sample_body common (bands_apart 1 3 2) (55 ∷ 3 ∷ 15 ∷ 0 ∷ 3 ∷ 0 ∷ [])) ≡ bits_of_bytes (0x37 ∷ 0xB7 ∷ 0x80 ∷ 0x5C ∷ 0x00 ∷ []) }
 {}
 
-/// A number of 16 bits.
+/// A residual of 16 bits.
 pub fn signed_sixteen_bits()
     ensures { filled_up (sample_body (of_bits 16) (bands_apart 1 1 1) (65535 ∷ [])) ≡ bits_of_bytes (0xFF ∷ 0xFF ∷ []) }
 {}
 
-/// After as many zeros as the unary length limit comes the whole number.
+/// After as many zeros as the unary length limit comes the residual in D bits.
 pub fn escape()
     ensures { filled_up (sample_body (short_limit 8) (bands_apart 1 2 1) (144 ∷ 19 ∷ [])) ≡ bits_of_bytes (0x90 ∷ 0x00 ∷ 0x13 ∷ []) }
 {}
@@ -66,13 +66,13 @@ pub fn cube_a_bip()
         ≡ bits_of_bytes (0x37 ∷ 0x14 ∷ 0xB9 ∷ 0xDA ∷ 0x8C ∷ 0x97 ∷ 0x60 ∷ []) }
 {}
 
-/// The greatest number of 11 bits is escaped.
+/// The greatest residual of 11 bits is escaped.
 pub fn register_wraps()
     ensures { filled_up (sample_body (of_bits 11) (bands_apart 1 2 2) (2039 ∷ 8 ∷ 7 ∷ 2047 ∷ [])) ≡ bits_of_bytes (0xFE ∷ 0xE8 ∷ 0x00 ∷ 0xE0 ∷ 0x00 ∷ 0x1F
         ∷ 0xFC ∷ []) }
 {}
 
-/// The same with a last number of 0.
+/// The same with a last residual of 0.
 pub fn wide_register()
     ensures { filled_up (sample_body (of_bits 11) (bands_apart 1 2 2) (2039 ∷ 8 ∷ 7 ∷ 0 ∷ [])) ≡ bits_of_bytes (0xFE ∷ 0xE8 ∷ 0x00 ∷ 0xF0 ∷ []) }
 {}
@@ -126,7 +126,7 @@ pub fn weight_stops_at_the_least()
         ≡ bits_of_bytes (0x38 ∷ 0x03 ∷ 0xDB ∷ 0x4C ∷ 0x17 ∷ 0x30 ∷ []) }
 {}
 
-/// A number of 0 before an escape.
+/// A residual of 0 before an escape.
 pub fn greatest_prediction()
     ensures { filled_up (sample_body common (bands_apart 1 3 2) (97 ∷ 255 ∷ 182 ∷ 228 ∷ 0 ∷ 149 ∷ [])) ≡ bits_of_bytes (0x61 ∷ 0x00 ∷ 0x00 ∷ 0xFF ∷ 0x3B ∷ 0x72
         ∷ 0x40 ∷ 0x00 ∷ 0x04 ∷ 0xA8 ∷ []) }

@@ -1,4 +1,4 @@
--- The sign of a prediction's error, told by the predicted difference alone (CCSDS 123.0-B-1, "Prediction Calculation").
+-- The sign of a prediction's error, which the predicted central difference determines (CCSDS 123.0-B-1, "Prediction Calculation").
 use Rattle.std.specs.Prelude.{ℕ, ◌≡◌, ◌+◌, ◌*◌, ◌^◌, ◌<◌, ◌≤◌, ℤ, pos, ◌+ℤ◌, ◌-ℤ◌, ◌*ℤ◌, int_lt, int_le, unsigned_abs}
 use Rattle.header_bits.specs.declared.params.Params.{Params}
 use Rattle.header_bits.specs.Lawful.{IsLawful}
@@ -10,12 +10,12 @@ use Rattle.sample_prediction.specs.LocalSum.{local_sum}
 use Rattle.sample_prediction.specs.Differences.{central_difference, difference_vector}
 use Rattle.sample_prediction.specs.Prediction.{inner_product, weight_vector, scaled_prediction}
 
--- the predicted central difference at row y, column x: the products of weights and differences, without the weights' fraction, rounded down
+-- d̂, the predicted central difference at row y, column x: the inner product of W and U over 2^Ω, rounded down
 abbrev pub predicted_difference : Params → Image → ℕ → ℕ → ℕ → ℤ
 predicted_difference p c z y x =
     floor_div (inner_product (weight_vector p c z (y * c.shape.columns + x)) (difference_vector (predictor_of p) c z y x)) (2 ^ p.omega)
 
--- lawful parameters and a cube of their shape and kind, and a place of it that is not the first of its band
+-- lawful parameters, a cube of their shape and kind, and a place of it that isn't the first of its band
 pub record IsLaterPlace (p : Params) (c : Image) (z y x : ℕ) : Type 0 where
   pub lawful : IsLawful p
   pub cube : IsCube c
@@ -24,8 +24,7 @@ pub record IsLaterPlace (p : Params) (c : Image) (z y x : ℕ) : Type 0 where
   pub place : IsPlace c.shape z y x
   pub later : 0 < y + x
 
--- In a register of 46 bits or more, which nothing wraps, the scaled prediction is twice the middle,
--- moved by half of the predicted difference and the local sum.
+-- A register of 46 bits or more never wraps: s̃ is ⌊(d̂ + σ - 4·s_mid) / 2⌋ + 2·s_mid + 1, clipped.
 abbrev pub UnwrappedPrediction : Type 0
 UnwrappedPrediction =
     (p : Params) (c : Image) (z y x : ℕ) → IsLaterPlace p c z y x → 46 ≤ p.register
@@ -35,14 +34,14 @@ UnwrappedPrediction =
     (pos 2 *ℤ smin c.kind)
     (pos 2 *ℤ smax c.kind +ℤ pos 1)
 
--- There an error is negative exactly where the central difference is at most the predicted one, whatever the clip does.
+-- With such a register 2·s - s̃ is negative exactly if d is at most d̂, whether or not s̃ was clipped.
 abbrev pub ErrorSign : Type 0
 ErrorSign =
     (p : Params) (c : Image) (z y x : ℕ) → IsLaterPlace p c z y x → 46 ≤ p.register
     → int_lt (pos 2 *ℤ sample_at c z y x -ℤ scaled_prediction p c z (y * c.shape.columns + x)) (pos 0)
     ≡ int_le (central_difference (predictor_of p) c z y x) (predicted_difference p c z y x)
 
--- A predicted difference fits 32 bits, in any register.
+-- |d̂| is at most 18·2^20, so d̂ fits in 32 bits.
 abbrev pub DifferenceBound : Type 0
 DifferenceBound =
     (p : Params) (c : Image) (z y x : ℕ) → IsLaterPlace p c z y x → unsigned_abs (predicted_difference p c z y x) ≤ 18 * 2 ^ 20

@@ -11,5 +11,5 @@ pub mod Prediction
 pub mod Predictor
 pub mod Residual
 pub mod Weights
-pub mod Rows
-pub mod Everything
+pub mod Examples
+pub mod Unfold

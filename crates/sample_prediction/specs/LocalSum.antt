@@ -1,9 +1,9 @@
--- The local sum: four times an average of the neighbours (CCSDS 123.0-B-1, "Local Sums").
+-- The local sum σ: four times an average of the neighbours (CCSDS 123.0-B-1, "Local Sums").
 use Rattle.std.specs.Prelude.{ℕ, ◌+◌, ◌-◌, ◌==◌, ℤ, pos, ◌+ℤ◌, ◌*ℤ◌, if◌then◌else◌}
 use Rattle.cube_core.specs.Image.{Image, sample_at}
 use Rattle.sample_prediction.specs.declared.predictor.Predictor.{Predictor}
 
--- the neighbour to the west, and those above: to the north, the north-west and the north-east
+-- the neighbours to the west, north, north-west and north-east
 abbrev pub west : Image → ℕ → ℕ → ℕ → ℤ
 west c z y x = sample_at c z y (x - 1)
 
@@ -16,7 +16,7 @@ north_west c z y x = sample_at c z (y - 1) (x - 1)
 abbrev pub north_east : Image → ℕ → ℕ → ℕ → ℤ
 north_east c z y x = sample_at c z (y - 1) (x + 1)
 
--- in the first row, and the first column, and the last one, what is missing is made up for by another neighbour
+-- σ; in the first row, the first column and the last column other neighbours replace those that don't exist
 unfoldable pub local_sum : Predictor → Image → ℕ → ℕ → ℕ → ℤ
 local_sum p c z y x =
     if y == 0 then pos 4 *ℤ west c z y x

@@ -1,4 +1,4 @@
--- What the parameters tell the predictor (CCSDS 123.0-B-1, "Predictor").
+-- The parameters of the predictor (CCSDS 123.0-B-1, "Predictor").
 use Rattle.std.specs.Prelude.{ℕ, ◌+◌, min, if◌then◌else◌}
 use Rattle.header_bits.specs.declared.params.Params.{Params}
 use Rattle.sample_prediction.specs.declared.predictor.Predictor.{Predictor}
@@ -15,10 +15,10 @@ predictor_of p = record {
   vmax = p.vmax;
 }
 
--- how many bands below band z there are to look at
+-- the number of previous bands from which band z is predicted: min(z, P)
 abbrev pub previous_bands : Predictor → ℕ → ℕ
 previous_bands p z = min z p.previous
 
--- how many differences predict a sample of band z: in full mode three more
+-- C, the number of components of U in band z
 abbrev pub component_count : Predictor → ℕ → ℕ
 component_count p z = if p.reduced then previous_bands p z else 3 + previous_bands p z

@@ -1,2 +1,2 @@
-pub mod Everything
-pub mod Rows
+pub mod Examples
+pub mod Unfold

@@ -2,12 +2,12 @@
 use Rattle.std.specs.Prelude.{ℕ, zero, suc, ◌+◌, ◌*◌, List, [], ◌∷◌, map, take, replicate, Bool, false, ℤ, pos, negsuc}
 use Rattle.cube_core.specs.declared.order.Order.TheVariants.{Bsq}
 use Rattle.cube_core.specs.Image.{Image}
-use Rattle.cube_core.specs.Rows.{unsigned, signed}
+use Rattle.cube_core.specs.Examples.{unsigned, signed}
 use Rattle.cube_core.specs.Steps.{Test}
 use Rattle.header_bits.specs.declared.params.Params.{Params}
 use Rattle.header_bits.specs.declared.params.Coder.TheVariants.{Block}
 use Rattle.header_bits.specs.Bits.{bits_of, bits_of_bytes}
-use Rattle.header_bits.specs.Rows.{common, cube_a, with_weights}
+use Rattle.header_bits.specs.Examples.{common, cube_a, with_weights}
 use Rattle.file_format.specs.File.{packed, file_of}
 use Rattle.file_format.specs.Files.{file_test}
 

@@ -1,12 +1,12 @@
 //! Worked files: a cube, its parameters, and the bytes of its file.
-#![tactic(auto, unfolding(crate::specs::Everything::everything))]
+#![tactic(auto, unfolding(crate::specs::Unfold::everything))]
 
 ghost use Rattle.std.specs.Prelude.{◌≡◌, ◌∷◌, [], replicate, pos, negsuc, true, false};
 ghost use Rattle.cube_core.specs.declared.order.Order.TheVariants.{Bi, Bsq};
-ghost use Rattle.header_bits.specs.Rows.{block, common, cube_a, deep, with_constants, with_sample_coder, with_weights};
+ghost use Rattle.header_bits.specs.Examples.{block, common, cube_a, deep, with_constants, with_sample_coder, with_weights};
 ghost use Rattle.file_format.specs.File.{file_of, file_of_residuals};
-ghost use Rattle.worked_files.specs.Rows.{bytes, cube, file, one_below, coarse_steps, growing_steps, signed_sixteen, four_byte_words, two_below, coarse_table};
-ghost use Rattle.worked_files.specs.Rows.{blocks_a, few_bits, middles, samples_a};
+ghost use Rattle.worked_files.specs.Examples.{bytes, cube, file, one_below, coarse_steps, growing_steps, signed_sixteen, four_byte_words, two_below, coarse_table};
+ghost use Rattle.worked_files.specs.Examples.{blocks_a, few_bits, middles, samples_a};
 
 /// One sample is written in its bits.
 pub fn one_sample()

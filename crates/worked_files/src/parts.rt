@@ -1,11 +1,11 @@
 //! Worked examples of the parts that predictors make of cube A, interleaved by pixel.
-#![tactic(auto, unfolding(crate::specs::Everything::everything))]
+#![tactic(auto, unfolding(crate::specs::Unfold::everything))]
 
 ghost use Rattle.std.specs.Prelude.{◌≡◌, ◌∷◌, [], map, pos};
 ghost use Rattle.cube_core.specs.declared.order.Order.TheVariants.{Bi};
-ghost use Rattle.header_bits.specs.Rows.{cube_a};
+ghost use Rattle.header_bits.specs.Examples.{cube_a};
 ghost use Rattle.coder_pipe.specs.Weave.{parts, weave};
-ghost use Rattle.worked_files.specs.Rows.{cube, samples_a};
+ghost use Rattle.worked_files.specs.Examples.{cube, samples_a};
 
 /// A predictor for each band.
 pub fn a_band_each()

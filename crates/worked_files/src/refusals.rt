@@ -1,12 +1,12 @@
 //! Whole files that are refused, and the first fault of each; and some that a decoder must accept.
-#![tactic(auto, unfolding(crate::specs::Everything::everything))]
+#![tactic(auto, unfolding(crate::specs::Unfold::everything))]
 
 ghost use Rattle.std.specs.Prelude.{◌≡◌, Err};
 ghost use Rattle.cube_core.specs.declared.fault.Fault.TheVariants.{ShortHeader, Reserved, Disagree, Truncated};
 ghost use Rattle.cube_core.specs.declared.fault.Fault.TheVariants.{BadCode, BadOption, RunPastSegment, BadFill, TooLong};
 ghost use Rattle.cube_core.specs.declared.fault.Rule.TheVariants as rule;
 ghost use Rattle.header_bits.specs.Parts.{fine};
-ghost use Rattle.worked_files.specs.Rows.{test};
+ghost use Rattle.worked_files.specs.Examples.{test};
 
 /// The last bit of two equal samples' file is one.
 pub fn a_bit_after_the_body_is_one()

@@ -1,9 +1,9 @@
 //! Worked files by the restricted set of code options.
-#![tactic(auto, unfolding(crate::specs::Everything::everything))]
+#![tactic(auto, unfolding(crate::specs::Unfold::everything))]
 
 ghost use Rattle.std.specs.Prelude.{◌≡◌, ◌∷◌, [], replicate, true};
 ghost use Rattle.file_format.specs.File.{file_of_residuals};
-ghost use Rattle.worked_files.specs.Rows.{bytes, file, few_bits};
+ghost use Rattle.worked_files.specs.Examples.{bytes, file, few_bits};
 
 /// Two bits: the residual 0 makes a zero block.
 pub fn zero_block_of_two_bits()

@@ -1,12 +1,12 @@
 //! Files whose headers hold tables: the first fault of each.
-#![tactic(auto, unfolding(crate::specs::Everything::everything))]
+#![tactic(auto, unfolding(crate::specs::Unfold::everything))]
 
 ghost use Rattle.std.specs.Prelude.{◌≡◌, ◌++◌, ◌∷◌, [], Err, negsuc, replicate};
 ghost use Rattle.cube_core.specs.declared.fault.Fault.TheVariants.{ShortHeader, Reserved, Disagree, TableElsewhere, Truncated};
 ghost use Rattle.cube_core.specs.declared.fault.Rule.TheVariants as rule;
 ghost use Rattle.header_bits.specs.Parts.{fine};
-ghost use Rattle.header_bits.specs.Rows.{with_constants, with_weights};
-ghost use Rattle.worked_files.specs.Rows.{file, test, tests_of_cuts};
+ghost use Rattle.header_bits.specs.Examples.{with_constants, with_weights};
+ghost use Rattle.worked_files.specs.Examples.{file, test, tests_of_cuts};
 
 /// Without previous bands a table has no entries, and no bytes.
 pub fn table_of_no_weights()

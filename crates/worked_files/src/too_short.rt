@@ -1,14 +1,14 @@
 //! Files that are too short for their number of samples.
-#![tactic(auto, unfolding(crate::specs::Everything::everything))]
+#![tactic(auto, unfolding(crate::specs::Unfold::everything))]
 
 ghost use Rattle.std.specs.Prelude.{◌≡◌, ◌++◌, ◌∷◌, [], Err, false, replicate};
 ghost use Rattle.cube_core.specs.declared.fault.Fault.TheVariants.{ShortHeader, Truncated};
-ghost use Rattle.cube_core.specs.Rows.{sizes};
+ghost use Rattle.cube_core.specs.Examples.{sizes};
 ghost use Rattle.header_bits.specs.Bits.{bits_of};
 ghost use Rattle.header_bits.specs.Parts.{fine};
-ghost use Rattle.header_bits.specs.Rows.{block, with_sample_coder};
+ghost use Rattle.header_bits.specs.Examples.{block, with_sample_coder};
 ghost use Rattle.file_format.specs.Least.{least_test};
-ghost use Rattle.worked_files.specs.Rows.{bytes, test, tests_of_cuts};
+ghost use Rattle.worked_files.specs.Examples.{bytes, test, tests_of_cuts};
 
 /// 32 bits for 33 samples, though they contain a bad code word.
 pub fn fewer_bits_than_samples()

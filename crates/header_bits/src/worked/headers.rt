@@ -1,10 +1,10 @@
 //! Worked headers: what is written for parameters, and what is read again.
-#![tactic(auto, unfolding(crate::specs::Everything::everything))]
+#![tactic(auto, unfolding(crate::specs::Unfold::everything))]
 
 ghost use Rattle.std.specs.Prelude.{◌≡◌, [], Ok, true, false};
 ghost use Rattle.cube_core.specs.declared.order.Order.TheVariants.{Bsq, Bi};
 ghost use Rattle.header_bits.specs.Header.{header_at, header_of};
-ghost use Rattle.header_bits.specs.Rows.{common, cube_a, coarse_steps, deep, block, narrow_block, with_sample_coder, header};
+ghost use Rattle.header_bits.specs.Examples.{common, cube_a, coarse_steps, deep, block, narrow_block, with_sample_coder, header};
 
 /// A lone sample of eight bits.
 pub fn one_sample()

@@ -1,5 +1,5 @@
 //! Worked parameters, and their first refusals.
-#![tactic(auto, unfolding(crate::specs::Everything::everything))]
+#![tactic(auto, unfolding(crate::specs::Unfold::everything))]
 
 ghost use Rattle.std.specs.Prelude.{◌≡◌, [], ◌∷◌, Err, true, false, pos, negsuc};
 ghost use Rattle.cube_core.specs.declared.fault.Fault.TheVariants.{FieldRange, Disagree};
@@ -10,7 +10,7 @@ ghost use Rattle.header_bits.specs.declared.params.Coder.TheVariants.{Sample};
 ghost use Rattle.header_bits.specs.declared.params.CountStart.TheVariants.{Constant};
 ghost use Rattle.header_bits.specs.Parts.{fine};
 ghost use Rattle.header_bits.specs.Lawful.{params_fault};
-ghost use Rattle.header_bits.specs.Rows.{common, narrow_block, with_weights, with_constants, with_sample_coder, with_exponents, with_register, full_weights};
+ghost use Rattle.header_bits.specs.Examples.{common, narrow_block, with_weights, with_constants, with_sample_coder, with_exponents, with_register, full_weights};
 
 /// The parameters that the examples share.
 pub fn common_parameters()

@@ -1,5 +1,5 @@
 //! Worked headers that are refused, and one with free bits.
-#![tactic(auto, unfolding(crate::specs::Everything::everything))]
+#![tactic(auto, unfolding(crate::specs::Unfold::everything))]
 
 ghost use Rattle.std.specs.Prelude.{◌≡◌, [], Ok, Err, pos};
 ghost use Rattle.cube_core.specs.declared.fault.Fault.TheVariants.{ShortHeader, Reserved, FieldRange, Disagree};
@@ -7,7 +7,7 @@ ghost use Rattle.cube_core.specs.declared.fault.Field.TheVariants as field;
 ghost use Rattle.cube_core.specs.declared.fault.Rule.TheVariants as rule;
 ghost use Rattle.header_bits.specs.Bits.{bits_of};
 ghost use Rattle.header_bits.specs.Header.{header_at};
-ghost use Rattle.header_bits.specs.Rows.{common, with_register, with_sample_coder, header};
+ghost use Rattle.header_bits.specs.Examples.{common, with_register, with_sample_coder, header};
 
 /// Under band sequential order the field of the depth may hold any bits.
 pub fn any_depth_under_band_sequential_order()

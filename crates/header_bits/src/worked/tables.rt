@@ -1,5 +1,5 @@
 //! Worked headers with tables, or with the restricted set of options.
-#![tactic(auto, unfolding(crate::specs::Everything::everything))]
+#![tactic(auto, unfolding(crate::specs::Unfold::everything))]
 
 ghost use Rattle.std.specs.Prelude.{◌≡◌, [], ◌∷◌, Ok, Err, true, pos, negsuc};
 ghost use Rattle.cube_core.specs.declared.fault.Fault.TheVariants.{ShortHeader, Reserved, FieldRange, Disagree, TableElsewhere};
@@ -7,7 +7,7 @@ ghost use Rattle.cube_core.specs.declared.fault.Field.TheVariants as field;
 ghost use Rattle.cube_core.specs.declared.fault.Rule.TheVariants as rule;
 ghost use Rattle.header_bits.specs.Bits.{bits_of};
 ghost use Rattle.header_bits.specs.Header.{header_at, header_of};
-ghost use Rattle.header_bits.specs.Rows.{narrow_block, with_weights, with_constants, header};
+ghost use Rattle.header_bits.specs.Examples.{narrow_block, with_weights, with_constants, header};
 
 /// In reduced mode and without previous bands a table has no entries, and no bytes.
 pub fn table_of_no_weights()

@@ -1,5 +1,5 @@
 //! Predicted central differences, and the signs of errors that follow from them.
-#![tactic(auto, unfolding(crate::specs::Everything::everything))]
+#![tactic(auto, unfolding(crate::specs::Unfold::everything))]
 
 ghost use Rattle.std.specs.Prelude.{◌≡◌, pos, negsuc};
 ghost use Rattle.cube_core.specs.Image.{sample_at};
@@ -7,7 +7,7 @@ ghost use Rattle.sample_prediction.specs.Predictor.{predictor_of};
 ghost use Rattle.sample_prediction.specs.Differences.{central_difference};
 ghost use Rattle.sample_prediction.specs.Prediction.{scaled_prediction};
 ghost use Rattle.sample_prediction.specs.ErrorSign.{predicted_difference};
-ghost use Rattle.sample_prediction.specs.Rows.{cube_a, full};
+ghost use Rattle.sample_prediction.specs.Examples.{cube_a, full};
 
 /// The fraction of the weights is dropped downwards, on both sides of 0.
 pub fn predicted_differences_are_rounded_down()

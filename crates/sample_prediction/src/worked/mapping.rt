@@ -1,8 +1,8 @@
 //! The mapping of samples to residuals.
-#![tactic(auto, unfolding(crate::specs::Everything::everything))]
+#![tactic(auto, unfolding(crate::specs::Unfold::everything))]
 
 ghost use Rattle.std.specs.Prelude.{◌≡◌, pos};
-ghost use Rattle.cube_core.specs.Rows.{unsigned};
+ghost use Rattle.cube_core.specs.Examples.{unsigned};
 ghost use Rattle.sample_prediction.specs.Residual.{mapped};
 
 /// An even scaled prediction gives larger samples even numbers.

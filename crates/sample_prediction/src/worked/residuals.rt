@@ -1,10 +1,10 @@
 //! Residuals of whole cubes.
-#![tactic(auto, unfolding(crate::specs::Everything::everything))]
+#![tactic(auto, unfolding(crate::specs::Unfold::everything))]
 
 ghost use Rattle.std.specs.Prelude.{◌≡◌, ◌∷◌, [], pos, negsuc, neg_ℤ};
-ghost use Rattle.cube_core.specs.Rows.{sizes, signed, unsigned};
+ghost use Rattle.cube_core.specs.Examples.{sizes, signed, unsigned};
 ghost use Rattle.sample_prediction.specs.Residual.{residuals};
-ghost use Rattle.sample_prediction.specs.Rows.{cube_a, cube, common, one_below, coarse_steps, fine, full, interleaved, scaled_of_cube_a, register_cube};
+ghost use Rattle.sample_prediction.specs.Examples.{cube_a, cube, common, one_below, coarse_steps, fine, full, interleaved, scaled_of_cube_a, register_cube};
 
 /// The residual of a lone sample follows from its distance from the middle.
 pub fn one_sample()

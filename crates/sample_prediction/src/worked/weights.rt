@@ -1,5 +1,5 @@
 //! Weights: their start, their steps and their bounds.
-#![tactic(auto, unfolding(crate::specs::Everything::everything))]
+#![tactic(auto, unfolding(crate::specs::Unfold::everything))]
 
 ghost use Rattle.std.specs.Prelude.{◌≡◌, ◌∷◌, [], pos, negsuc, neg_ℤ};
 ghost use Rattle.sample_prediction.specs.Predictor.{predictor_of};
@@ -7,7 +7,7 @@ ghost use Rattle.sample_prediction.specs.Differences.{directional_differences};
 ghost use Rattle.sample_prediction.specs.Weights.{table_weights, default_weights, step};
 ghost use Rattle.sample_prediction.specs.Prediction.{weight_vector};
 ghost use Rattle.sample_prediction.specs.Residual.{residuals};
-ghost use Rattle.sample_prediction.specs.Rows.{cube, cube_a, one_below, coarse_steps, coarse_table, coarse, growing_steps, full};
+ghost use Rattle.sample_prediction.specs.Examples.{cube, cube_a, one_below, coarse_steps, coarse_table, coarse, growing_steps, full};
 ghost use Rattle.header_bits.specs.declared.params.WeightStart.TheVariants.{Table};
 
 /// The first place of a band changes no weight.

@@ -3,7 +3,7 @@ use Rattle.std.specs.Int.Count.{count_leading_zeros}
 use Rattle.std.proofs.lemmas.Nat.{one_shl}
 use Rattle.block_adaptive.proofs.Looking.{code_used, code_word}
 use Rattle.block_adaptive.proofs.ahead.code_ahead.Goals as goal
-use Rattle.header_bits.proofs.Tops.{top_is, top_cleared}
+use Rattle.block_adaptive.proofs.Tops.{top_is, top_cleared}
 
 pub overflow_sub-result : goal.overflow_sub-result
 overflow_sub-result c = omega (arith, (top_is _ _ c.requires.below c.requires.few c.if-ahead-eq0.false).inside)

@@ -1,7 +1,7 @@
 use Rattle.std.proofs.lemmas.Grind.{common_steps}
 use Rattle.std.proofs.Common.{arith}
 use Rattle.block_adaptive.proofs.block_writer.sum_of_eights.Goals as goal
-use Rattle.header_bits.proofs.Sums.{sum_small, sum_front, sum_next}
+use Rattle.block_adaptive.proofs.ListSums.{sum_small, sum_front, sum_next}
 
 pub overflow_add-total : goal.overflow_add-total
 overflow_add-total c = grind (arith, common_steps, sum_front, sum_next, sum_small)

@@ -1,7 +1,7 @@
 use Rattle.std.proofs.Common.{arith}
 use Rattle.block_adaptive.proofs.choice.first_split.Goals as goal
 use Rattle.block_adaptive.proofs.choice.first_split.Goals.{then-sum-gt0+then-len-gt0+then-splits-gt0, else-sum-gt0}
-use Rattle.header_bits.proofs.Powers.{near_falls}
+use Rattle.block_adaptive.proofs.Powers.{near_falls}
 
 pub loop-first-init : goal.loop-first-init
 loop-first-init c =

@@ -4,7 +4,7 @@ use Rattle.block_adaptive.proofs.Looking.{code_read}
 use Rattle.block_adaptive.proofs.Takes.{quotients_each}
 use Rattle.block_adaptive.proofs.data_sets.codes.Goals as goal
 use Rattle.block_adaptive.proofs.data_sets.codes.Goals.{in-Some, in_default+in_ok-quotient}
-use Rattle.header_bits.proofs.Fours.{bound_more, all_bound}
+use Rattle.block_adaptive.proofs.FourValues.{bound_more, all_bound}
 
 pub loop-value-preserved : goal.loop-value-preserved
 loop-value-preserved c =

@@ -2,8 +2,8 @@ use Rattle.std.proofs.Common.{ℕ, ◌/◌, ◌^◌, arith}
 use Rattle.block_adaptive.proofs.Fours.{split_none}
 use Rattle.block_adaptive.proofs.Takes.{quotients_takes}
 use Rattle.block_adaptive.proofs.data_sets.split.Goals as goal
-use Rattle.header_bits.proofs.Powers.{greatest_shifted}
-use Rattle.header_bits.proofs.Fours.{all_within}
+use Rattle.block_adaptive.proofs.Powers.{greatest_shifted}
+use Rattle.block_adaptive.proofs.FourValues.{all_within}
 
 pub lows_within-requires-clause-within : goal.lows_within-requires-clause-within
 lows_within-requires-clause-within c =

@@ -1,6 +1,6 @@
 use Rattle.std.proofs.Common.{arith}
 use Rattle.std.proofs.lemmas.Grind.{common_steps}
-use Rattle.header_bits.proofs.Powers.{four_shifts}
+use Rattle.block_adaptive.proofs.Powers.{four_shifts}
 use Rattle.block_adaptive.proofs.lows.join_lows.Goals as goal
 
 pub joined-requires-clause-within : goal.joined-requires-clause-within

@@ -2,7 +2,7 @@ use Rattle.std.proofs.Common.{◌≡◌, ◌*◌, ◌%◌, ◌^◌, arith, pow_p
 use Rattle.std.proofs.lemmas.Nat.{one_shl, and_mask}
 use Rattle.std.proofs.Math.Nat.{mod-lt}
 use Rattle.block_adaptive.proofs.lows.joined.Goals as goal
-use Rattle.header_bits.proofs.Powers.{whole_small}
+use Rattle.block_adaptive.proofs.Powers.{whole_small}
 
 pub returns : goal.returns
 returns c =

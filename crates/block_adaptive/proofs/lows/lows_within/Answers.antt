@@ -2,7 +2,7 @@ use Rattle.std.proofs.Common.{◌≡◌, ◌+◌, ◌-◌, ◌≤◌, ◌∙◌,
 use Rattle.header_bits.proofs.Each.{some_more, some_end, each_done}
 use Rattle.block_adaptive.proofs.Takes.{lows_each}
 use Rattle.block_adaptive.proofs.lows.lows_within.Goals as goal
-use Rattle.header_bits.proofs.Fours.{fours_after}
+use Rattle.block_adaptive.proofs.FourValues.{fours_after}
 
 pub returns-in_err-four_lows-clause-read : goal.returns-in_err-four_lows-clause-read
 returns-in_err-four_lows-clause-read c = grind (arith, lows_each, some_end)

@@ -2,7 +2,7 @@ use Rattle.std.proofs.Common.{◌≡◌, ◌+◌, ◌-◌, ◌%◌, ◌≤◌, l
 use Rattle.header_bits.proofs.Each.{AreRead}
 use Rattle.block_adaptive.specs.Reading.{site_of, low_at}
 use Rattle.block_adaptive.proofs.lows.lows_within.Given as goal
-use Rattle.header_bits.proofs.Fours.{Within}
+use Rattle.block_adaptive.proofs.FourValues.{Within}
 
 abbrev pub invariant-loop-first : goal.invariant-loop-first
 invariant-loop-first l =

@@ -3,7 +3,7 @@ use Rattle.std.proofs.Common.{arith}
 use Rattle.block_adaptive.proofs.Emits.{quotient_next, quotient_end}
 use Rattle.block_adaptive.proofs.Gathers.{goes_step, goes_end}
 use Rattle.block_adaptive.proofs.writing.append_codes.Goals as goal
-use Rattle.header_bits.proofs.Zeros.{length-fundamental}
+use Rattle.block_adaptive.proofs.Zeros.{length-fundamental}
 
 pub append_fundamental-requires : goal.append_fundamental-requires
 append_fundamental-requires c = grind (arith, common_steps, length-fundamental, quotient_next)

@@ -3,7 +3,7 @@ use Rattle.std.proofs.Common.{arith}
 use Rattle.block_adaptive.proofs.Emits.{identifier_zero, run_text_cost}
 use Rattle.block_adaptive.proofs.Gathers.{appends_both, appends_end}
 use Rattle.block_adaptive.proofs.writing.write_run.Goals as goal
-use Rattle.header_bits.proofs.Zeros.{length-fundamental}
+use Rattle.block_adaptive.proofs.Zeros.{length-fundamental}
 
 pub append-requires-clause-room : goal.append-requires-clause-room
 append-requires-clause-room c = grind (arith, run_text_cost)

@@ -1,6 +1,6 @@
 use Rattle.std.proofs.Common.{refl}
 use Rattle.std.specs.Fmt.{digits}
-use Rattle.command_reports.specs.Everything.{everything}
+use Rattle.command_reports.specs.Unfold.{everything}
 use Rattle.command_reports.proofs.worked.tables.Goals as goal
 
 pub returns-clause-weights : goal.returns-clause-weights

@@ -1,5 +1,5 @@
 use Rattle.std.proofs.Common.{rules}
 use Rattle.sample_adaptive.proofs.code_word.take_word.Goals as goal
 
-pub returns-in_ok-number-in-None-clause-reads : goal.returns-in_ok-number-in-None-clause-reads
-returns-in_ok-number-in-None-clause-reads c = search rules
+pub returns-in_ok-residual-in-None-clause-reads : goal.returns-in_ok-residual-in-None-clause-reads
+returns-in_ok-residual-in-None-clause-reads c = search rules

@@ -8,7 +8,7 @@ pub loop-i-init : goal.loop-i-init
 loop-i-init c =
     rw c.fork-ahead.ensures (record {
       taken = λ v z t k within settings own some. starts (same_band v z _ (sym own));
-      tracked = c.requires.tracked;
+      state = c.requires.state;
       count = refl;
       long = refl;
       inside = omega arith;
@@ -17,18 +17,18 @@ loop-i-init c =
 pub loop-i-preserved : goal.loop-i-preserved
 loop-i-preserved c =
     let was = c.loop-i.invariant in
-    let lt : c.loop-i.i < length c.loop-i.numbers = omega (arith, c.loop-i-test.true, was.long) in
+    let lt : c.loop-i.i < length c.loop-i.residuals = omega (arith, c.loop-i-test.true, was.long) in
     record {
       taken = λ v z t k within settings own some.
           run_steps t c.loop-i.band.statistics (was.taken v z t k within settings own some) within some lt
-          (rw (settings.umax_is, settings.bits_are, ← c.settle.ensures.value) c.in-Ok.ensures.reads) c.in-Ok.ensures.count
-          (rw (settings.size_is, ← c.settle.ensures.statistics) c.count.ensures.value);
-      tracked = c.count.ensures.tracked;
+          (rw (settings.umax_is, settings.bits_are, ← c.update_k.ensures.value) c.in-Ok.ensures.reads) c.in-Ok.ensures.count
+          (rw (settings.size_is, ← c.update_k.ensures.statistics) c.count.ensures.value);
+      state = c.count.ensures.state;
       count = c.in-Ok.ensures.count ∙ was.count;
-      long = length-set c.loop-i.numbers c.loop-i.i c.in-Ok.number ∙ was.long;
-      inside = omega (arith, lt, length-set c.loop-i.numbers c.loop-i.i c.in-Ok.number);
+      long = length-set c.loop-i.residuals c.loop-i.i c.in-Ok.residual ∙ was.long;
+      inside = omega (arith, lt, length-set c.loop-i.residuals c.loop-i.i c.in-Ok.residual);
     }
 
 pub returns-in_default-take_from-clause-taken : goal.returns-in_default-take_from-clause-taken
 returns-in_default-take_from-clause-taken c = λ v z t k within settings own some.
-    rw (c.in_default-take_from.ensures.same, c.settle.ensures.statistics) (c.loop-i.invariant.taken v z t k within settings own some)
+    rw (c.in_default-take_from.ensures.same, c.update_k.ensures.statistics) (c.loop-i.invariant.taken v z t k within settings own some)

@@ -1,19 +1,19 @@
 use Rattle.std.proofs.Common.{◌≡◌, ◌+◌, ◌-◌, ◌<◌, ◌≤◌, ℕ, length}
-use Rattle.sample_adaptive.specs.Taken.{Counts, HasSettings, Reaches, of_band, with_band}
-use Rattle.sample_adaptive.specs.Tracked.{IsTracked}
+use Rattle.sample_adaptive.specs.Taken.{CoderState, HasSettings, Reaches, of_band, with_band}
+use Rattle.sample_adaptive.specs.BandStates.{IsBandState}
 use Rattle.sample_adaptive.proofs.run_words.take_ready.Given as goal
 
 abbrev pub invariant-loop-i : goal.invariant-loop-i
 invariant-loop-i l =
     record {
-      taken : (v : Counts) (z t k : ℕ) → z < length v.bands → HasSettings v l.fn.run.bits l.fn.run.limit l.fn.run.rescaling.size
+      taken : (v : CoderState) (z t k : ℕ) → z < length v.bands → HasSettings v l.fn.settings.bits l.fn.settings.limit l.fn.settings.rescaling.size
           → of_band v.bands z ≡ l.initial.band.statistics → 0 < t + k
-          → Reaches (λ i. z) (λ i. t + i) k l.fn.index l.i v (with_band v z l.band.statistics) l.initial.reader l.ahead l.numbers;
-      tracked : IsTracked l.fn.run l.band;
+          → Reaches (λ i. z) (λ i. t + i) k l.fn.index l.i v (with_band v z l.band.statistics) l.initial.reader l.ahead l.residuals;
+      state : IsBandState l.fn.settings l.band;
       count : l.ahead.count ≡ l.initial.reader.count;
-      long : length l.numbers ≡ length l.initial.numbers;
-      inside : l.i ≤ length l.numbers;
+      long : length l.residuals ≡ length l.initial.residuals;
+      inside : l.i ≤ length l.residuals;
     }
 
 abbrev pub decreases-loop-i : goal.decreases-loop-i
-decreases-loop-i l = length l.numbers - l.i
+decreases-loop-i l = length l.residuals - l.i

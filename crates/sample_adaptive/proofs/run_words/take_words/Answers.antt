@@ -29,4 +29,4 @@ returns-in_ok-first-in-Some-clause-taken c = λ v z within settings own.
 
 pub returns-in-None-clause-taken : goal.returns-in-None-clause-taken
 returns-in-None-clause-taken c = λ v z within settings own.
-    rw (nil_from_length c.args.numbers.now (omega (arith, c.in-None.ensures.cases)), same_band v z _ (sym own)) (none _ _ 0 _ v _)
+    rw (nil_from_length c.args.residuals.now (omega (arith, c.in-None.ensures.cases)), same_band v z _ (sym own)) (none _ _ 0 _ v _)

@@ -1,5 +1,5 @@
 use Rattle.std.proofs.Common.{refl}
-use Rattle.sample_adaptive.specs.Everything.{everything}
+use Rattle.sample_adaptive.specs.Unfold.{everything}
 use Rattle.sample_adaptive.proofs.worked_refusals.third_place.Goals as goal
 
 pub returns : goal.returns

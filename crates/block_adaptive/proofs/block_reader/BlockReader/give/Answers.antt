@@ -1,6 +1,6 @@
 use Rattle.std.proofs.Common.{arith}
 use Rattle.std.proofs.lemmas.Grind.{common_steps}
-use Rattle.header_bits.proofs.Places.{first_in_hand}
+use Rattle.block_adaptive.proofs.Places.{first_in_hand}
 use Rattle.block_adaptive.proofs.block_reader.BlockReader.give.Goals as goal
 
 pub overflow_sub-self : goal.overflow_sub-self

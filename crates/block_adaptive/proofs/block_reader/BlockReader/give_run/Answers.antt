@@ -1,6 +1,6 @@
 use Rattle.std.proofs.Common.{arith}
 use Rattle.std.proofs.lemmas.Grind.{common_steps}
-use Rattle.header_bits.proofs.Places.{first_of_hand, zeros_of_hand}
+use Rattle.block_adaptive.proofs.Places.{first_of_hand, zeros_of_hand}
 use Rattle.block_adaptive.proofs.block_reader.BlockReader.give_run.Goals as goal
 
 pub returns-then-self-clause-front : goal.returns-then-self-clause-front

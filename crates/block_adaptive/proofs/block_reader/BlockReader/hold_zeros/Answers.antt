@@ -1,7 +1,7 @@
 use Rattle.std.proofs.Common.{arith}
 use Rattle.block_adaptive.specs.contracts.block_reader.BlockReader.{the_view}
 use Rattle.block_adaptive.proofs.Handed.{rest_small, run_parts}
-use Rattle.header_bits.proofs.Places.{run_in_hand}
+use Rattle.block_adaptive.proofs.Places.{run_in_hand}
 use Rattle.std.proofs.lemmas.Grind.{common_steps}
 use Rattle.block_adaptive.proofs.block_reader.BlockReader.hold_zeros.Goals as goal
 

@@ -6,7 +6,7 @@ use Rattle.block_adaptive.proofs.Counts.{data_set_left}
 use Rattle.block_adaptive.proofs.block_reader.BlockReader.next.Goals.{then-self+then-self-eq0+in_ok-take_data_set, else-self}
 use Rattle.block_adaptive.proofs.block_reader.BlockReader.next.Goals.{else-self-via-then-self+else-self-eq0, else-self-via-else-self}
 use Rattle.block_adaptive.proofs.Runs.{taken_run, held_run}
-use Rattle.header_bits.proofs.Places.{empty_hand}
+use Rattle.block_adaptive.proofs.Places.{empty_hand}
 use Rattle.std.proofs.lemmas.Grind.{common_steps}
 use Rattle.block_adaptive.proofs.block_reader.BlockReader.next.Goals as goal
 

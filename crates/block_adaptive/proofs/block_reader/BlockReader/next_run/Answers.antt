@@ -4,7 +4,7 @@ use Rattle.std.proofs.lemmas.Result.{err_from_is_err_and}
 use Rattle.block_adaptive.specs.Given.{GivesAll}
 use Rattle.block_adaptive.proofs.Runs.{runs_joined, run_refused}
 use Rattle.block_adaptive.proofs.block_reader.BlockReader.next_run.Goals as goal
-use Rattle.header_bits.proofs.Places.{written_more}
+use Rattle.block_adaptive.proofs.Places.{written_more}
 
 pub returns-in_err-done-clause-given : goal.returns-in_err-done-clause-given
 returns-in_err-done-clause-given c =

@@ -5,7 +5,7 @@ use Rattle.block_adaptive.proofs.Calls.{next_refused}
 use Rattle.block_adaptive.proofs.Counts.{data_set_left}
 use Rattle.block_adaptive.proofs.Runs.{taken_run, taken_kept, held_run}
 use Rattle.block_adaptive.proofs.block_reader.BlockReader.next_some.Goals.{then-self-eq0+then-self+in_ok-take_data_set, else-self-eq0}
-use Rattle.header_bits.proofs.Places.{empty_hand}
+use Rattle.block_adaptive.proofs.Places.{empty_hand}
 use Rattle.std.proofs.lemmas.Grind.{common_steps}
 use Rattle.block_adaptive.proofs.block_reader.BlockReader.next_some.Goals as goal
 

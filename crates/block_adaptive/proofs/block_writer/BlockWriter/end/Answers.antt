@@ -2,7 +2,7 @@ use Rattle.std.proofs.Common.{◌≡◌, ◌∙◌, false, eqb, length, take, re
 use Rattle.std.proofs.lemmas.Bool.{ne_eqb}
 use Rattle.std.proofs.lemmas.List.{length-take}
 use Rattle.std.proofs.lemmas.Nat.{pow_pos}
-use Rattle.header_bits.proofs.Places.{on_ok_of}
+use Rattle.block_adaptive.proofs.Places.{on_ok_of}
 use Rattle.block_adaptive.specs.Segments.{filled}
 use Rattle.block_adaptive.specs.contracts.block_writer.BlockWriter.{the_view}
 use Rattle.block_adaptive.proofs.Handed.{size_most}

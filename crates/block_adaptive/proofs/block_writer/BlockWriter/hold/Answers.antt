@@ -5,8 +5,8 @@ use Rattle.block_adaptive.proofs.Handed.{size_most}
 use Rattle.block_adaptive.proofs.Holds.{stored_more}
 use Rattle.block_adaptive.proofs.Stored.{total_few}
 use Rattle.block_adaptive.proofs.block_writer.BlockWriter.hold.Goals as goal
-use Rattle.header_bits.proofs.Sums.{sum_small}
-use Rattle.header_bits.proofs.Places.{held_all}
+use Rattle.block_adaptive.proofs.ListSums.{sum_small}
+use Rattle.block_adaptive.proofs.Places.{held_all}
 
 pub overflow_add-self-2 : goal.overflow_add-self-2
 overflow_add-self-2 c =

@@ -1,7 +1,7 @@
 use Rattle.std.proofs.Common.{◌≡◌, List, ℕ, [], ◌∷◌, ◌++◌, length, take, ap, arith}
 use Rattle.std.proofs.lemmas.List.{length-append, length-take}
 use Rattle.header_bits.proofs.Items.{all_append}
-use Rattle.header_bits.proofs.Places.{held_more, on_ok_both}
+use Rattle.block_adaptive.proofs.Places.{held_more, on_ok_both}
 use Rattle.block_adaptive.specs.contracts.block_writer.BlockWriter.{the_view}
 use Rattle.block_adaptive.proofs.Counts.{room_left}
 use Rattle.block_adaptive.proofs.Handed.{size_most}

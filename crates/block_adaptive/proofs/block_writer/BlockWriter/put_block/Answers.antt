@@ -1,6 +1,6 @@
 use Rattle.std.proofs.Common.{◌≡◌, ◌∙◌, ◌+◌, ◌-◌, ◌++◌, length, take, ap, arith, rules}
 use Rattle.std.proofs.lemmas.List.{take_all}
-use Rattle.block_adaptive.specs.Taken.{Packed}
+use Rattle.block_adaptive.specs.Taken.{WriterState}
 use Rattle.block_adaptive.proofs.Counts.{room_left}
 use Rattle.block_adaptive.proofs.Handed.{size_least}
 use Rattle.block_adaptive.proofs.Packing.{values_held, values_packed}
@@ -24,4 +24,4 @@ returns-in-Ok-clause-memory c = search rules
 pub returns-in-Err-clause-taken : goal.returns-in-Err-clause-taken
 returns-in-Err-clause-taken c =
     rw c.in-Err.ensures.same.1 (values_held c.args.self.now c.hold.new.self _ (take (c.self.inside.size - 1) c.args.block.now) (c.hold.ensures
-    ∙ ap (λ (v : Packed). record v { held = v.held ++ take (c.self.inside.size - 1) c.args.block.now }) c.in-Err.ensures.same.0))
+    ∙ ap (λ (v : WriterState). record v { held = v.held ++ take (c.self.inside.size - 1) c.args.block.now }) c.in-Err.ensures.same.0))

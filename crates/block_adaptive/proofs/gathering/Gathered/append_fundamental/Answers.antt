@@ -2,7 +2,7 @@ use Rattle.std.proofs.Common.{[], ◌+◌, ◌^◌, ◌≤◌, arith, refl}
 use Rattle.std.proofs.Math.Pow.{pow_mono}
 use Rattle.block_adaptive.proofs.Gathers.{goes_step, goes_end}
 use Rattle.block_adaptive.proofs.gathering.Gathered.append_fundamental.Goals as goal
-use Rattle.header_bits.proofs.Zeros.{length-fundamental, sixty_four_more, last_zeros}
+use Rattle.block_adaptive.proofs.Zeros.{length-fundamental, sixty_four_more, last_zeros}
 
 pub append-requires-clause-room : goal.append-requires-clause-room
 append-requires-clause-room c = grind (arith, length-fundamental)

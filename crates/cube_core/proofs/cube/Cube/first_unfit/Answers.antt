@@ -3,7 +3,7 @@ use Rattle.std.proofs.lemmas.Bool.{false≢true}
 use Rattle.cube_core.proofs.Words.{Sizes, sample_count, IsOrder, places, RawOrder, order_of, samples_in, HasBytesAt}
 use Rattle.cube_core.proofs.Orders.{StandsAt, length-places}
 use Rattle.cube_core.proofs.Raws.{next_stands, lawful_order}
-use Rattle.cube_core.proofs.Poured.{sample_there, length-samples_in, bytes_more}
+use Rattle.cube_core.proofs.Written.{sample_there, length-samples_in, bytes_more}
 use Rattle.cube_core.proofs.cube.Cube.first_unfit.Goals as goal
 use Rattle.cube_core.proofs.cube.Cube.first_unfit.Goals.{In-Some, After-sample-sample}
 

@@ -5,8 +5,8 @@ use Rattle.std.proofs.lemmas.Int.{ints}
 use Rattle.cube_core.proofs.Scales.{zero_at, most_at}
 use Rattle.cube_core.proofs.scale.Scale.new.Goals as goal
 
-pub invariant_of-result-clause-lift_is : goal.invariant_of-result-clause-lift_is
-invariant_of-result-clause-lift_is c = zero_at c.args.kind.signed _ _ _ c.offset_of.ensures.value (omega arith) (omega arith)
+pub invariant_of-result-clause-bias_is : goal.invariant_of-result-clause-bias_is
+invariant_of-result-clause-bias_is c = zero_at c.args.kind.signed _ _ _ c.offset_of.ensures.value (omega arith) (omega arith)
 
 pub invariant_of-result-clause-most_is : goal.invariant_of-result-clause-most_is
 invariant_of-result-clause-most_is c =

@@ -17,6 +17,6 @@ returns g c =
       | then-this-eq1 w ↦ one_byte _ _ _ w.if-this-eq1.true w.rebased-is
       | else-this-eq1 w ↦ two_bytes _ _ _ w.if-this-eq1.false c.requires.width w.rebased-is
     ] in
-    let found = stands s.kind g.row.BYTES _ s.half s.lift _ s.kind_is c.requires.width c.requires.number (rw c.requires.bytes at s.half_is) (omega arith)
-    s.lift_is t in
+    let found = stands s.kind g.row.BYTES _ s.half s.bias _ s.kind_is c.requires.width c.requires.number (rw c.requires.bytes at s.half_is) (omega arith)
+    s.bias_is t in
     record { value = found.0; range = found.1 }

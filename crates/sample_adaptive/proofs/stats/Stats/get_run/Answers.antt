@@ -1,19 +1,19 @@
 use Rattle.std.proofs.Common.{rules, ap}
-use Rattle.sample_adaptive.specs.Taken.{Counts}
-use Rattle.sample_adaptive.proofs.Tracking.{settings_seen, bands_seen, band_own, statistics_set, tracked_own, tracked_anew, count_stays}
+use Rattle.sample_adaptive.specs.Taken.{CoderState}
+use Rattle.sample_adaptive.proofs.Tracking.{settings_seen, bands_seen, band_own, statistics_set, state_own, state_anew, count_stays}
 use Rattle.sample_adaptive.proofs.stats.Stats.get_run.Goals as goal
 
-pub take_words-requires-clause-tracked : goal.take_words-requires-clause-tracked
-take_words-requires-clause-tracked c =
-    tracked_own c.args.self.now _ (bands_seen c.self.view_is) _ c.requires.band _ c.self.invariant _ c.index.ensures
+pub take_words-requires-clause-state : goal.take_words-requires-clause-state
+take_words-requires-clause-state c =
+    state_own c.args.self.now _ (bands_seen c.self.view_is) _ c.requires.band _ c.self.invariant _ c.index.ensures
 
 pub invariant_of-self : goal.invariant_of-self
 invariant_of-self c =
-    tracked_anew c.args.self.now _ (bands_seen c.self.view_is) _ c.requires.band _ c.self.invariant _ c.in-Ok.ensures.tracked
+    state_anew c.args.self.now _ (bands_seen c.self.view_is) _ c.requires.band _ c.self.invariant _ c.in-Ok.ensures.state
 
 pub returns-in-Ok-clause-bands : goal.returns-in-Ok-clause-bands
 returns-in-Ok-clause-bands c =
-    (count_stays c.args.self.now _ (bands_seen c.self.view_is) _ c.requires.band c.take_words.new.tracked, ap (λ (w : Counts). w.bits) c.self.view_is)
+    (count_stays c.args.self.now _ (bands_seen c.self.view_is) _ c.requires.band c.take_words.new.state, ap (λ (w : CoderState). w.bits) c.self.view_is)
 
 pub returns-in-Ok-clause-taken : goal.returns-in-Ok-clause-taken
 returns-in-Ok-clause-taken c =
@@ -21,7 +21,7 @@ returns-in-Ok-clause-taken c =
     let items = c.self.inside.bands.items in
     let own = band_own v items (bands_seen c.self.view_is) c.args.z c.requires.band c.index.result.now c.index.ensures in
     let run = c.in-Ok.ensures.taken v c.args.z c.requires.band (settings_seen v _ c.self.view_is) own in
-    rw (statistics_set items c.args.z c.take_words.new.tracked, ← c.self.view_is) (rw (c.fork-ahead.ensures, ← c.self.view_is) at run)
+    rw (statistics_set items c.args.z c.take_words.new.state, ← c.self.view_is) (rw (c.fork-ahead.ensures, ← c.self.view_is) at run)
 
 pub returns-in-Err-clause-taken : goal.returns-in-Err-clause-taken
 returns-in-Err-clause-taken c =

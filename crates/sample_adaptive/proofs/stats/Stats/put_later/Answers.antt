@@ -1,20 +1,20 @@
 use Rattle.std.proofs.Common.{ap}
-use Rattle.sample_adaptive.specs.Taken.{Counts}
-use Rattle.sample_adaptive.proofs.Tracking.{settings_seen, bands_seen, band_own, statistics_set, tracked_own, tracked_anew, count_stays}
+use Rattle.sample_adaptive.specs.Taken.{CoderState}
+use Rattle.sample_adaptive.proofs.Tracking.{settings_seen, bands_seen, band_own, statistics_set, state_own, state_anew, count_stays}
 use Rattle.sample_adaptive.proofs.stats.Stats.put_later.Goals as goal
 
 pub replace_with-requires : goal.replace_with-requires
 replace_with-requires c =
-    let own = tracked_own c.args.self.now _ (bands_seen c.self.view_is) _ c.requires.band _ c.self.invariant _ c.index.ensures in
-    (own, (rw (← c.self.view_is) at c.requires.numbers, c.requires.room))
+    let own = state_own c.args.self.now _ (bands_seen c.self.view_is) _ c.requires.band _ c.self.invariant _ c.index.ensures in
+    (own, (rw (← c.self.view_is) at c.requires.residuals, c.requires.room))
 
 pub invariant_of-self : goal.invariant_of-self
 invariant_of-self c =
-    tracked_anew c.args.self.now _ (bands_seen c.self.view_is) _ c.requires.band _ c.self.invariant _ (c.replace_with.ensures.1.0)
+    state_anew c.args.self.now _ (bands_seen c.self.view_is) _ c.requires.band _ c.self.invariant _ (c.replace_with.ensures.1.0)
 
 pub returns-clause-bands : goal.returns-clause-bands
 returns-clause-bands c =
-    (count_stays c.args.self.now _ (bands_seen c.self.view_is) _ c.requires.band c.replace_with.result, ap (λ (w : Counts). w.bits) c.self.view_is)
+    (count_stays c.args.self.now _ (bands_seen c.self.view_is) _ c.requires.band c.replace_with.result, ap (λ (w : CoderState). w.bits) c.self.view_is)
 
 pub returns-clause-written : goal.returns-clause-written
 returns-clause-written c = λ t k some.

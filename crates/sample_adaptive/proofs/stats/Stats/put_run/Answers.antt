@@ -15,20 +15,20 @@ returns-in-Ok-clause-written c =
 
 pub returns-in_default-clause-written : goal.returns-in_default-clause-written
 returns-in_default-clause-written c =
-    let none = nil_from_length c.args.numbers.now (omega (arith, c.in_default.ensures.cases)) in
+    let none = nil_from_length c.args.residuals.now (omega (arith, c.in_default.ensures.cases)) in
     rw (← c.in_ok-make_room.ensures.same, none) (refl, refl)
 
 pub returns-then-t-ge1-clause-taken : goal.returns-then-t-ge1-clause-taken
-returns-then-t-ge1-clause-taken c = run_taken c.args.z c.args.t c.args.numbers.now _ _ _ _ c.requires.band (returns-then-t-ge1-clause-written c)
+returns-then-t-ge1-clause-taken c = run_taken c.args.z c.args.t c.args.residuals.now _ _ _ _ c.requires.band (returns-then-t-ge1-clause-written c)
 
 pub returns-in-Ok-clause-taken : goal.returns-in-Ok-clause-taken
-returns-in-Ok-clause-taken c = run_taken c.args.z c.args.t c.args.numbers.now _ _ _ _ c.requires.band (returns-in-Ok-clause-written c)
+returns-in-Ok-clause-taken c = run_taken c.args.z c.args.t c.args.residuals.now _ _ _ _ c.requires.band (returns-in-Ok-clause-written c)
 
 pub returns-in_default-clause-taken : goal.returns-in_default-clause-taken
-returns-in_default-clause-taken c = run_taken c.args.z c.args.t c.args.numbers.now _ _ _ _ c.requires.band (returns-in_default-clause-written c)
+returns-in_default-clause-taken c = run_taken c.args.z c.args.t c.args.residuals.now _ _ _ _ c.requires.band (returns-in_default-clause-written c)
 
 pub put_later-requires-in-Some-clause-room : goal.put_later-requires-in-Some-clause-room
 put_later-requires-in-Some-clause-room c = search rules
 
-pub put_later-requires-in-Some-clause-numbers : goal.put_later-requires-in-Some-clause-numbers
-put_later-requires-in-Some-clause-numbers c = (rw (← c.in-Ok.ensures.bands.1, c.in-Some.ensures.cases.0) at c.requires.numbers).1
+pub put_later-requires-in-Some-clause-residuals : goal.put_later-requires-in-Some-clause-residuals
+put_later-requires-in-Some-clause-residuals c = (rw (← c.in-Ok.ensures.bands.1, c.in-Some.ensures.cases.0) at c.requires.residuals).1

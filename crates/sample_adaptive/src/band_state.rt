@@ -1,0 +1,75 @@
+//! The state of each band: its statistics, and the code parameter k.
+
+ghost use Rattle.std.specs.Prelude.{◌≡◌};
+ghost use Rattle.sample_adaptive.specs.Statistics.{AreStatistics, next_statistics, code_parameter};
+ghost use Rattle.sample_adaptive.specs.BandStates.{IsBandState};
+
+use crate::code_settings::CodeSettings;
+use crate::statistics::{Statistics, counted, halved, level, parameter};
+
+/// The statistics of a band, and the code parameter of its last residual, which most residuals leave as it was.
+///
+/// Γ·2^k is stored, so that two comparisons mostly show that k is still right.
+#[derive(Clone, Copy)]
+pub(crate) struct BandState {
+    pub statistics: Statistics,
+    /// k, the code parameter of the last residual.
+    pub k: u32,
+    /// 2^k.
+    pub power: u32,
+    /// Γ·2^k.
+    pub scaled_counter: u32,
+}
+
+impl BandState {
+    /// Returns the state with these statistics, and the code parameter that they give.
+    #[inline(always)]
+    pub(crate) fn of(settings: CodeSettings, statistics: Statistics) -> BandState
+        requires { AreStatistics settings.rescaling.size statistics }
+        ensures statistics { result.statistics ≡ statistics }
+        ensures value { result.k ≡ code_parameter settings.bits statistics }
+        ensures state { IsBandState settings result }
+    {
+        let k = parameter(settings.bits, statistics);
+        BandState {
+            statistics,
+            k,
+            power: 1 << k,
+            scaled_counter: statistics.counter << k,
+        }
+    }
+
+    /// Updates the code parameter to that of the statistics.
+    ///
+    /// Two comparisons mostly show that it is unchanged, and then nothing is written.
+    #[inline(always)]
+    pub(crate) fn update_k(&mut self, settings: CodeSettings)
+        requires { IsBandState settings self.old }
+        ensures statistics { self.new.statistics ≡ self.old.statistics }
+        ensures value { self.new.k ≡ code_parameter settings.bits self.old.statistics }
+        ensures state { IsBandState settings self.new }
+    {
+        let level = level(self.statistics);
+        if self.scaled_counter <= level && level < 2 * self.scaled_counter {
+            return;
+        }
+        *self = BandState::of(settings, self.statistics);
+    }
+
+    /// Counts one more residual, and leaves the code parameter as it was.
+    #[inline(always)]
+    #[tactic(auto, unfolding(crate::specs::Statistics::next_statistics))]
+    pub(crate) fn count(&mut self, settings: CodeSettings, residual: u16)
+        requires { IsBandState settings self.old }
+        ensures value { self.new.statistics ≡ next_statistics settings.rescaling.size self.old.statistics residual }
+        ensures state { IsBandState settings self.new }
+    {
+        if self.statistics.counter < settings.rescaling.greatest {
+            self.statistics = counted(self.statistics, residual);
+            self.scaled_counter += self.power;
+            return;
+        }
+        self.statistics = halved(self.statistics, residual);
+        self.scaled_counter = self.statistics.counter << self.k;
+    }
+}
