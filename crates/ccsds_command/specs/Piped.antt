@@ -6,7 +6,7 @@ use Rattle.cube_core.specs.Order.{upto}
 use Rattle.cube_core.specs.Shape.{InRange}
 use Rattle.header_bits.specs.Lawful.{IsLawful, params_fault}
 use Rattle.coder_pipe.specs.Piping.{EndsEarly, MayStopPart}
-use Rattle.coder_pipe.specs.Plans.{Dealing, plan_fault}
+use Rattle.coder_pipe.specs.Plans.{PlanState, plan_fault}
 use Rattle.command_words.specs.declared.settings.CompressSettings.{CompressSettings}
 use Rattle.command_devices.specs.Writing.{IsCutShort}
 use Rattle.ccsds_command.specs.Compress.{HasCube, HasFile, IsCubeRefusal}
@@ -23,7 +23,7 @@ MayBePlanned s = InRange 1 64 s.predictors × InRange 1 65536 s.slots
 abbrev pub deal_of : CompressSettings → List ℕ
 deal_of s = if are_in_range s then map (λ z. z % s.predictors) (upto s.params.shape.bands) else []
 
-abbrev pub plan_of : CompressSettings → Dealing
+abbrev pub plan_of : CompressSettings → PlanState
 plan_of s = record { params = s.params; predictors = s.predictors; deal = deal_of s; slots = s.slots }
 
 -- there can be no plan, and this is why

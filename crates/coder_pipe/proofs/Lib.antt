@@ -7,4 +7,4 @@ pub mod Predicted
 pub mod Standings
 pub mod Taking
 pub mod Weaves
-pub mod Weaving
+pub mod WeaverState

@@ -11,14 +11,14 @@ use Rattle.cube_core.proofs.Orders.{length-places}
 use Rattle.header_bits.specs.declared.params.Params.{Params}
 use Rattle.lane_workers.specs.Stages.{Standing}
 use Rattle.file_format.specs.File.{file_of_residuals}
-use Rattle.coder_pipe.specs.Plans.{Dealing, IsPlan}
+use Rattle.coder_pipe.specs.Plans.{PlanState, IsPlan}
 use Rattle.file_encoding.specs.Own.{owners, part}
 use Rattle.coder_pipe.specs.Weave.{weave}
 use Rattle.coder_pipe.proofs.Weaves.{weave_is, part_share, owned, length-owners}
 use Rattle.coder_pipe.specs.Piping.{carried, AreFeeds, IsPiped, EndsEarly, MayStop}
 use Rattle.coder_pipe.specs.Standings.{feeds_of, handed_of, IsWoven}
 use Rattle.coder_pipe.specs.Stops.{MayStopAt}
-use Rattle.coder_pipe.specs.Woven.{Weaving, HasWoven}
+use Rattle.coder_pipe.specs.Woven.{WeaverState, HasWoven}
 
 -- an element of a list that has one
 pub some_of : {A : Type 0} (xs : List A) (k : ℕ) → k < length xs → A
@@ -49,13 +49,13 @@ whole_places : (p : Params) (deal numbers : List ℕ) → IsOrder p.shape p.orde
 whole_places p deal numbers lawful e = omega (arith, e, length-owners deal p, length-places p.shape p.order lawful)
 
 -- then no place is to come
-pub nothing_left : (p : Params) (deal : List ℕ) (w : Weaving) (handed : List (List ℕ)) → IsOrder p.shape p.order
+pub nothing_left : (p : Params) (deal : List ℕ) (w : WeaverState) (handed : List (List ℕ)) → IsOrder p.shape p.order
     → IsWoven p deal w handed (sample_count p.shape) → w.end.left ≡ []
 nothing_left p deal w handed lawful h =
     h.woven.coded.left ∙ drop_of_length-le (places p.shape p.order) (omega (arith, h.long, length-places p.shape p.order lawful))
 
 -- and each worker has handed on as many as its feed has
-pub handed_whole : {F G : Type 0} (predictor : F → ℕ) (items : F → List ℕ) (plan : Dealing) (w : Weaving) (ss : List (Standing F G)) (feeds : List F)
+pub handed_whole : {F G : Type 0} (predictor : F → ℕ) (items : F → List ℕ) (plan : PlanState) (w : WeaverState) (ss : List (Standing F G)) (feeds : List F)
     → IsPlan plan → AreFeeds predictor items plan feeds → feeds_of ss ≡ feeds → IsWoven plan.params plan.deal w (handed_of ss) (sample_count plan.params.shape)
     → All (λ s. length s.handed ≡ length (items s.feed)) ss
 handed_whole predictor items plan w ss feeds lawful lists same h k d lt =
@@ -68,7 +68,7 @@ handed_whole predictor items plan w ss feeds lawful lists same h k d lt =
     ap (λ (ns : List ℕ). length ns) (sym handed ∙ h.parts k (rw length-map lt)) ∙ count ∙ sym (lists.whole k s.feed few) ∙ ap (λ f. length (items f)) feed
 
 -- the file is that of the feeds' lists, woven
-pub piped : {F : Type 0} (predictor : F → ℕ) (items : F → List ℕ) (plan : Dealing) (w : Weaving) (feeds : List F) (handed : List (List ℕ)) (file : List ℕ)
+pub piped : {F : Type 0} (predictor : F → ℕ) (items : F → List ℕ) (plan : PlanState) (w : WeaverState) (feeds : List F) (handed : List (List ℕ)) (file : List ℕ)
     (lanes : List Lane) → IsPlan plan → AreFeeds predictor items plan feeds → IsWoven plan.params plan.deal w handed (sample_count plan.params.shape)
     → handed ≡ map items feeds → lanes ≡ map (λ f. carried (items f)) feeds
     → ((p : Params) (deal numbers : List ℕ) → HasWoven p deal w numbers → file ≡ file_of_residuals numbers p) → IsPiped items plan feeds file lanes

@@ -16,8 +16,8 @@ use Rattle.file_format.specs.File.{file_of}
 use Rattle.predict_core.specs.Cubes.{IsCubeOf}
 use Rattle.file_format.specs.Files.{IsFile}
 use Rattle.file_format.proofs.FileLaws.{inside}
-use Rattle.coder_pipe.specs.Plans.{Dealing, IsPlan}
-use Rattle.coder_pipe.specs.Sends.{Predicting, part_of}
+use Rattle.coder_pipe.specs.Plans.{PlanState, IsPlan}
+use Rattle.coder_pipe.specs.Sends.{CubeFeedState, part_of}
 use Rattle.file_encoding.specs.Own.{owners, part}
 use Rattle.coder_pipe.specs.Weave.{parts}
 use Rattle.file_encoding.proofs.Owning.{length-residuals}
@@ -27,13 +27,13 @@ use Rattle.coder_pipe.specs.Piping.{carried, AreFeeds, IsPiped, MayStop, IsFileO
 use Rattle.file_format.proofs.WrittenFiles.{chosen_is_file}
 
 -- the feeds of a cube
-abbrev pub feed_of : Image → Dealing → ℕ → Predicting
+abbrev pub feed_of : Image → PlanState → ℕ → CubeFeedState
 feed_of c plan q = record { cube = c; plan = plan; predictor = q }
 
-abbrev pub feeds_from : Image → Dealing → List Predicting
+abbrev pub feeds_from : Image → PlanState → List CubeFeedState
 feeds_from c plan = map (feed_of c plan) (upto plan.predictors)
 
-feed_at : (c : Image) (plan : Dealing) (q : ℕ) (f : Predicting) → q < plan.predictors → get_or (feeds_from c plan) q f ≡ feed_of c plan q
+feed_at : (c : Image) (plan : PlanState) (q : ℕ) (f : CubeFeedState) → q < plan.predictors → get_or (feeds_from c plan) q f ≡ feed_of c plan q
 feed_at c plan q f lt =
     get_or-map (feed_of c plan) (upto plan.predictors) q 0 f (rw (length-from 0 plan.predictors) lt)
     ∙ ap (feed_of c plan) (get_or-from 0 plan.predictors q 0 lt ∙ omega arith)
@@ -46,7 +46,7 @@ part_inside limit q (o ∷ os) (n ∷ ns) h =
     let rest = part_inside limit q os ns h.1 in
     cond_both (o == q) (n ∷ part q os ns) (part q os ns) (AllByRecursion (λ v. v < limit)) (λ _. (h.0, rest)) (λ _. rest)
 
-module _ (plan : Dealing) (c : Image) (lawful : IsPlan plan) (cube : IsCubeOf plan.params c) where
+module _ (plan : PlanState) (c : Image) (lawful : IsPlan plan) (cube : IsCubeOf plan.params c) where
   abbrev of : ℕ → List ℕ
   of q = part q (owners plan.deal plan.params) (residuals plan.params c)
 
@@ -58,8 +58,8 @@ module _ (plan : Dealing) (c : Image) (lawful : IsPlan plan) (cube : IsCubeOf pl
   pub are_feeds : AreFeeds (λ f. f.predictor) part_of plan (feeds_from c plan)
   are_feeds = record {
     many = length-map (upto plan.predictors) (feed_of c plan) ∙ length-from 0 plan.predictors;
-    named = λ q f lt. ap (λ (d : Predicting). d.predictor) (feed_at c plan q f lt);
-    whole = λ q f lt. ap (λ (d : Predicting). length (part_of d)) (feed_at c plan q f lt)
+    named = λ q f lt. ap (λ (d : CubeFeedState). d.predictor) (feed_at c plan q f lt);
+    whole = λ q f lt. ap (λ (d : CubeFeedState). length (part_of d)) (feed_at c plan q f lt)
         ∙ part_share q (owners plan.deal plan.params) (residuals plan.params c) whole;
     range = λ q f lt.
         let all =
@@ -85,4 +85,4 @@ module _ (plan : Dealing) (c : Image) (lawful : IsPlan plan) (cube : IsCubeOf pl
       → MayStopPart may_stop gate plan c q n
   may_stop_part may_stop gate q n h =
       let lt : q < plan.predictors = omega (arith, h.0, length-map (upto plan.predictors) (feed_of c plan), length-from 0 plan.predictors) in
-      (lt, h.1, subst (λ (d : Predicting). n < length (part_of d)) (feed_at c plan q (feed_of c plan q) lt) (h.2 (feed_of c plan q)))
+      (lt, h.1, subst (λ (d : CubeFeedState). n < length (part_of d)) (feed_at c plan q (feed_of c plan q) lt) (h.2 (feed_of c plan q)))

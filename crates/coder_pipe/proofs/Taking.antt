@@ -18,9 +18,9 @@ use Rattle.file_encoding.specs.Own.{owners, part}
 use Rattle.coder_pipe.specs.Weave.{IsDeal, share}
 use Rattle.coder_pipe.proofs.Weaves.{part_none, part_push, part_short, owned, length-owners}
 use Rattle.coder_pipe.specs.Standings.{IsAhead, IsWoven}
-use Rattle.coder_pipe.specs.Woven.{Weaving, HasWoven, WeavesAll, AreOfOne, AreOwnersFrom}
+use Rattle.coder_pipe.specs.Woven.{WeaverState, HasWoven, WeavesAll, AreOfOne, AreOwnersFrom}
 
-pub woven_first : (p : Params) (deal : List ℕ) (w : Weaving) (handed : List (List ℕ)) → HasWoven p deal w [] → All (λ r. r ≡ []) handed
+pub woven_first : (p : Params) (deal : List ℕ) (w : WeaverState) (handed : List (List ℕ)) → HasWoven p deal w [] → All (λ r. r ≡ []) handed
     → IsWoven p deal w handed 0
 woven_first p deal w handed h none = record { numbers = []; woven = h; long = refl; parts = λ q lt. none q [] lt ∙ sym (part_none q (owners deal p)) }
 
@@ -77,12 +77,12 @@ more_run handed os ns run o k lt at here own =
     grind (arith, nat_tests, get_or-set_at, get_or-set_other, append-nil, pushed)
 
 -- nothing was handed on ahead
-abbrev pub ahead_none : (p : Params) (deal : List ℕ) (w : Weaving) (handed : List (List ℕ)) (count : ℕ) → IsWoven p deal w handed count
+abbrev pub ahead_none : (p : Params) (deal : List ℕ) (w : WeaverState) (handed : List (List ℕ)) (count : ℕ) → IsWoven p deal w handed count
     → IsAhead p deal w handed count []
 ahead_none p deal w handed count h = record { numbers = h.numbers; woven = h.woven; long = h.long; parts = λ q lt. rw (append-nil h.numbers) (h.parts q lt) }
 
 -- a run more was handed on ahead
-pub ahead_more : (p : Params) (deal : List ℕ) (w : Weaving) (handed now : List (List ℕ)) (count owner : ℕ) (ahead run : List ℕ)
+pub ahead_more : (p : Params) (deal : List ℕ) (w : WeaverState) (handed now : List (List ℕ)) (count owner : ℕ) (ahead run : List ℕ)
     (h : IsAhead p deal w handed count ahead) → ((i : ℕ) → i < length run → slice_get (owners deal p) (length (h.numbers ++ ahead) + i) ≡ Some owner)
     → owner < length handed → now ≡ set handed owner (get_or handed owner [] ++ run) → IsAhead p deal w now count (ahead ++ run)
 ahead_more p deal w handed now count owner ahead run h at lt is = record {
@@ -96,7 +96,7 @@ ahead_more p deal w handed now count owner ahead run h at lt is = record {
 }
 
 -- what was handed on ahead was taken
-pub woven_ahead : (p : Params) (deal : List ℕ) (old new : Weaving) (handed : List (List ℕ)) (count : ℕ) (ahead : List ℕ) → IsAhead p deal old handed count ahead
+pub woven_ahead : (p : Params) (deal : List ℕ) (old new : WeaverState) (handed : List (List ℕ)) (count : ℕ) (ahead : List ℕ) → IsAhead p deal old handed count ahead
     → WeavesAll old new ahead → IsWoven p deal new handed (count + length ahead)
 woven_ahead p deal old new handed count ahead h takes = record {
   numbers = h.numbers ++ ahead;
@@ -106,7 +106,7 @@ woven_ahead p deal old new handed count ahead h takes = record {
 }
 
 -- numbers that were handed on may be taken
-pub may_take : (p : Params) (deal : List ℕ) (w : Weaving) (numbers list : List ℕ) (most : ℕ) → HasWoven p deal w numbers → IsLawful p
+pub may_take : (p : Params) (deal : List ℕ) (w : WeaverState) (numbers list : List ℕ) (most : ℕ) → HasWoven p deal w numbers → IsLawful p
     → length numbers + length list ≤ sample_count p.shape → most + 1 ≡ 2 ^ p.kind.bits → All (λ n. n ≤ most) list → MayCodeAll w.end list
 may_take p deal w numbers list most h lawful few is range = record {
   params = p;
@@ -127,7 +127,7 @@ owners_fit p deal numbers (o ∷ os) lawful few from =
     omega (arith, within, length-owners deal p, length-places p.shape p.order lawful)
 
 -- fewer were taken than there are places, so a place is to come
-pub place_left : (p : Params) (deal : List ℕ) (w : Weaving) (handed : List (List ℕ)) (count : ℕ) → IsOrder p.shape p.order → IsWoven p deal w handed count
+pub place_left : (p : Params) (deal : List ℕ) (w : WeaverState) (handed : List (List ℕ)) (count : ℕ) → IsOrder p.shape p.order → IsWoven p deal w handed count
     → count < sample_count p.shape → 0 < length w.end.left
 place_left p deal w handed count lawful h lt =
     let left : length w.end.left ≡ length (drop (length h.numbers) (places p.shape p.order)) = ap (λ (x : List _). length x) h.woven.coded.left in

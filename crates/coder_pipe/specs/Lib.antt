@@ -11,7 +11,7 @@ pub use Rattle.file_encoding.specs.Own
 pub use Rattle.file_format.specs.File
 pub use Rattle.file_format.specs.Files
 pub use Rattle.file_format.specs.Laws
-pub use Rattle.file_format.specs.Least
+pub use Rattle.file_format.specs.MinimumLength
 pub use Rattle.predict_core.specs.Cubes
 pub use Rattle.predict_core.specs.Walked
 pub use Rattle.file_decoding.specs.Decoding

@@ -8,7 +8,7 @@ use Rattle.cube_core.specs.Image.{Image}
 use Rattle.sample_prediction.specs.Residual.{residuals}
 use Rattle.file_format.specs.File.{file_of_residuals, file_of}
 use Rattle.file_format.specs.Files.{IsFile}
-use Rattle.coder_pipe.specs.Plans.{Dealing}
+use Rattle.coder_pipe.specs.Plans.{PlanState}
 use Rattle.file_encoding.specs.Own.{owners, part}
 use Rattle.coder_pipe.specs.Weave.{parts, share, weave}
 
@@ -18,14 +18,14 @@ carried items = record { sent = items; received = items; rest = [] }
 
 module _ {F : Type 0} where
   -- one feed for each predictor of a plan: it states its number, and a list as long as its part, of numbers in range
-  pub record AreFeeds (predictor : F → ℕ) (items : F → List ℕ) (plan : Dealing) (feeds : List F) : Type 0 where
+  pub record AreFeeds (predictor : F → ℕ) (items : F → List ℕ) (plan : PlanState) (feeds : List F) : Type 0 where
     pub many : length feeds ≡ plan.predictors
     pub named : (q : ℕ) (f : F) → q < plan.predictors → predictor (slice_index_or feeds q f) ≡ q
     pub whole : (q : ℕ) (f : F) → q < plan.predictors → length (items (slice_index_or feeds q f)) ≡ share q (owners plan.deal plan.params)
     pub range : (q : ℕ) (f : F) → q < plan.predictors → All (λ n. n < 2 ^ plan.params.kind.bits) (items (slice_index_or feeds q f))
 
   -- each lane carried its feed's list, and the file is that of these lists, woven along the encoding order
-  pub record IsPiped (items : F → List ℕ) (plan : Dealing) (feeds : List F) (file : List ℕ) (lanes : List Lane) : Type 0 where
+  pub record IsPiped (items : F → List ℕ) (plan : PlanState) (feeds : List F) (file : List ℕ) (lanes : List Lane) : Type 0 where
     pub carries : lanes ≡ map (λ f. carried (items f)) feeds
     pub woven : file ≡ file_of_residuals (weave (owners plan.deal plan.params) (map items feeds)) plan.params
 
@@ -43,12 +43,12 @@ EndsEarly other At = ⊥
 
 -- what the pipeline makes of a cube: each lane carried its predictor's part of the residuals, none twice, none left, and the bytes are the definition's file,
 -- which is a file of this cube and these parameters and of no others
-pub record IsFileOf (plan : Dealing) (c : Image) (file : List ℕ) (lanes : List Lane) : Type 0 where
+pub record IsFileOf (plan : PlanState) (c : Image) (file : List ℕ) (lanes : List Lane) : Type 0 where
   pub carries : lanes ≡ map carried (parts plan.predictors plan.deal plan.params c)
   pub made : file ≡ file_of c plan.params
   pub back : IsFile file plan.params c
 
 -- the gate may stop predictor q at its n-th residual, and its part has that residual
-abbrev pub MayStopPart : {G : Type 0} → (G → ℕ → ℕ → Bool) → G → Dealing → Image → ℕ → ℕ → Type 0
+abbrev pub MayStopPart : {G : Type 0} → (G → ℕ → ℕ → Bool) → G → PlanState → Image → ℕ → ℕ → Type 0
 MayStopPart may_stop gate plan c q n =
     (q < plan.predictors) × IsTrue (may_stop gate q n) × (n < length (part q (owners plan.deal plan.params) (residuals plan.params c)))

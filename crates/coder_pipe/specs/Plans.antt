@@ -10,7 +10,7 @@ use Rattle.header_bits.specs.Parts.{fine}
 use Rattle.coder_pipe.specs.Weave.{IsDeal}
 
 -- for which parameters; how many predictors; the predictor of each band; and the room of a lane
-pub record Dealing : Type 0 where
+pub record PlanState : Type 0 where
   pub params : Params
   pub predictors : ℕ
   pub deal : List ℕ
@@ -23,7 +23,7 @@ pub record MayPlan (predictors slots bands : ℕ) (deal : List ℕ) : Type 0 whe
   pub dealt : IsDeal predictors bands deal
 
 -- a plan for lawful parameters
-pub record IsPlan (d : Dealing) : Type 0 where
+pub record IsPlan (d : PlanState) : Type 0 where
   pub lawful : IsLawful d.params
   pub may : MayPlan d.predictors d.slots d.params.shape.bands d.deal
 

@@ -5,7 +5,7 @@ use Rattle.cube_core.specs.Image.{Image}
 use Rattle.lane_workers.specs.Runs.{RunSending}
 use Rattle.sample_prediction.specs.Residual.{residuals}
 use Rattle.file_encoding.specs.Own.{owners, part}
-use Rattle.coder_pipe.specs.Plans.{Dealing}
+use Rattle.coder_pipe.specs.Plans.{PlanState}
 
 -- a sender takes more residuals, and can count those of a list
 pub record MaySend {G : Type 0} (s : RunSending G) (list : List ℕ) : Type 0 where
@@ -23,11 +23,11 @@ pub record Sends {G : Type 0} (old new : RunSending G) (all : Bool) (list : List
   pub stopped : IsFalse all → IsTrue new.stopped
 
 -- the feed of a predictor: the cube that it predicts, the plan, and its number
-pub record Predicting : Type 0 where
+pub record CubeFeedState : Type 0 where
   pub cube : Image
-  pub plan : Dealing
+  pub plan : PlanState
   pub predictor : ℕ
 
 -- the predictor's part of the cube's residuals
-abbrev pub part_of : Predicting → List ℕ
+abbrev pub part_of : CubeFeedState → List ℕ
 part_of f = part f.predictor (owners f.plan.deal f.plan.params) (residuals f.plan.params f.cube)

@@ -3,7 +3,7 @@ use Rattle.std.specs.Prelude.{◌≡◌, ℕ, ◌<◌, List, [], ◌++◌, map, 
 use Rattle.header_bits.specs.declared.params.Params.{Params}
 use Rattle.lane_workers.specs.Stages.{Standing}
 use Rattle.file_encoding.specs.Own.{owners, part}
-use Rattle.coder_pipe.specs.Woven.{Weaving, HasWoven}
+use Rattle.coder_pipe.specs.Woven.{WeaverState, HasWoven}
 
 module _ {F G : Type 0} where
   abbrev pub feeds_of : List (Standing F G) → List F
@@ -16,14 +16,14 @@ module _ {F G : Type 0} where
   handed_of ss = map (λ s. s.handed) ss
 
 -- the weaver has taken so many numbers, and of each predictor those that it handed on
-pub record IsWoven (p : Params) (deal : List ℕ) (w : Weaving) (handed : List (List ℕ)) (count : ℕ) : Type 0 where
+pub record IsWoven (p : Params) (deal : List ℕ) (w : WeaverState) (handed : List (List ℕ)) (count : ℕ) : Type 0 where
   pub numbers : List ℕ
   pub woven : HasWoven p deal w numbers
   pub long : length numbers ≡ count
   pub parts : (q : ℕ) → q < length handed → slice_index_or handed q [] ≡ part q (owners deal p) numbers
 
 -- so many numbers were taken, and those ahead were handed on after them, each by the predictor of its place
-pub record IsAhead (p : Params) (deal : List ℕ) (w : Weaving) (handed : List (List ℕ)) (count : ℕ) (ahead : List ℕ) : Type 0 where
+pub record IsAhead (p : Params) (deal : List ℕ) (w : WeaverState) (handed : List (List ℕ)) (count : ℕ) (ahead : List ℕ) : Type 0 where
   pub numbers : List ℕ
   pub woven : HasWoven p deal w numbers
   pub long : length numbers ≡ count

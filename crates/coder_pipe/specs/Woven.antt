@@ -4,27 +4,27 @@ use Rattle.cube_core.specs.declared.order.Order.{Order}
 use Rattle.cube_core.specs.Shape.{Sizes}
 use Rattle.cube_core.specs.Order.{IsOrder, places}
 use Rattle.header_bits.specs.declared.params.Params.{Params}
-use Rattle.file_encoding.specs.Ends.{Ending, HasCoded}
+use Rattle.file_encoding.specs.Ends.{FileEncoderState, HasCoded}
 
 -- the coding end of the image, and the predictor of each band
-pub record Weaving : Type 0 where
-  pub end : Ending
+pub record WeaverState : Type 0 where
+  pub end : FileEncoderState
   pub deal : List ℕ
 
 -- the places to come are the last of such an image's, and each of its bands is dealt
-pub record IsAlong (s : Sizes) (o : Order) (w : Weaving) : Type 0 where
+pub record IsAlong (s : Sizes) (o : Order) (w : WeaverState) : Type 0 where
   pub order : IsOrder s o
   pub whole : length w.deal ≡ s.bands
   pub gone : ℕ
   pub left : w.end.left ≡ drop gone (places s o)
 
 -- the weaver of parameters and a deal has taken the numbers, in encoding order
-pub record HasWoven (p : Params) (deal : List ℕ) (w : Weaving) (numbers : List ℕ) : Type 0 where
+pub record HasWoven (p : Params) (deal : List ℕ) (w : WeaverState) (numbers : List ℕ) : Type 0 where
   pub coded : HasCoded p w.end numbers
   pub dealt : w.deal ≡ deal
 
 -- whatever numbers it had taken, it has taken these after them
-abbrev pub WeavesAll : Weaving → Weaving → List ℕ → Type 0
+abbrev pub WeavesAll : WeaverState → WeaverState → List ℕ → Type 0
 WeavesAll old new list = (p : Params) (deal numbers : List ℕ) → HasWoven p deal old numbers → HasWoven p deal new (numbers ++ list)
 
 -- the owners of so many places from the n-th on are one

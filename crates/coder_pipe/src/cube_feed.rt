@@ -31,9 +31,9 @@ pub struct CubeFeed<'a> {
 
 impl<'a> Model for CubeFeed<'a> {
     ghost use Rattle.file_encoding.specs.Walks.{AreFresh, IsSeen};
-    ghost use Rattle.coder_pipe.specs.Sends.{Predicting};
+    ghost use Rattle.coder_pipe.specs.Sends.{CubeFeedState};
 
-    ghost Value = { Predicting };
+    ghost Value = { CubeFeedState };
 
     ghost view = { λ f. record { cube = f.cube.now; plan = f.plan.now; predictor = f.predictor } };
 

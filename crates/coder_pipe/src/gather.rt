@@ -126,13 +126,13 @@ pub(crate) fn next_of_row<R: Threads + Wait, F: Feed, G: Gate>(
     rt: &R,
     plan: &Plan,
     stages: &mut Vec<Stage<F, G>>,
-    overs: &[AtomicBool],
+    done_flags: &[AtomicBool],
     weaver: &Weaver,
     taken: u64,
     run: &mut [u16],
 ) -> Result<usize, (u32, u64)>
     requires many { vec_len stages.old ≡ plan.now.predictors }
-    requires overs { vec_len stages.old ≤ length overs.now }
+    requires done_flags { vec_len stages.old ≤ length done_flags.now }
     requires room { 0 < length run.old }
     requires woven { IsWoven plan.now.params plan.now.deal weaver.now (handed_of stages.old.items) taken }
     requires more { taken < sample_count plan.now.params.shape }
@@ -152,7 +152,7 @@ pub(crate) fn next_of_row<R: Threads + Wait, F: Feed, G: Gate>(
     };
     let q = owner as usize;
     let wanted = weaver.wanted_run(run.len());
-    match next_of(rt, stages, q, &overs[q], most, &mut run[..wanted]) {
+    match next_of(rt, stages, q, &done_flags[q], most, &mut run[..wanted]) {
         Ok(count) => Ok(count),
         Err(sent) => Err((owner, sent)),
     }
@@ -166,13 +166,13 @@ pub(crate) fn next_of_column<R: Threads + Wait, F: Feed, G: Gate>(
     rt: &R,
     plan: &Plan,
     stages: &mut Vec<Stage<F, G>>,
-    overs: &[AtomicBool],
+    done_flags: &[AtomicBool],
     weaver: &Weaver,
     taken: u64,
     run: &mut [u16],
 ) -> Result<usize, (u32, u64)>
     requires many { vec_len stages.old ≡ plan.now.predictors }
-    requires overs { vec_len stages.old ≤ length overs.now }
+    requires done_flags { vec_len stages.old ≤ length done_flags.now }
     requires room { 0 < length run.old }
     requires woven { IsWoven plan.now.params plan.now.deal weaver.now (handed_of stages.old.items) taken }
     requires more { taken < sample_count plan.now.params.shape }
@@ -191,7 +191,7 @@ pub(crate) fn next_of_column<R: Threads + Wait, F: Feed, G: Gate>(
     for i in 0..owners.len() {
         let owner = u32::from(owners[i]);
         let q = owner as usize;
-        match next_one_of(rt, stages, q, &overs[q], most) {
+        match next_one_of(rt, stages, q, &done_flags[q], most) {
             Ok(number) => run[i] = number,
             Err(sent) => return Err((owner, sent)),
         }

@@ -13,7 +13,7 @@ pub mod predict_lane;
 mod run;
 pub mod weaver;
 
-pub use file_decoding::{decode, decoder, least};
+pub use file_decoding::{decode, decoder, minimum_length};
 pub use file_encoding::{encode, encoder};
 pub use lane_workers::feed::{Feed, LaneEnd};
 pub use lane_workers::gate::{Gate, OpenGate};

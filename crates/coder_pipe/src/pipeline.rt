@@ -55,41 +55,41 @@ pub fn encode_piped<R: Threads + Wait + Sync, F: Feed + Send, G: Gate + Sync>(
 {
     plan.prove_is_plan();
     let count = feeds.len();
-    let overs = flags(alloc, count)?;
+    let done_flags = flags(alloc, count)?;
     let room = room_for(alloc, params, plan, count)?;
-    let readies = prepare(alloc, plan.slots(), feeds)?;
-    in_threads(rt, plan, readies, room, gate, &overs)
+    let prepared = prepare(alloc, plan.slots(), feeds)?;
+    in_threads(rt, plan, prepared, room, gate, &done_flags)
 }
 
 /// Runs the workers in threads of their own, which end before it returns.
 fn in_threads<R: Threads + Wait + Sync, F: Feed + Send, G: Gate + Sync>(
     rt: &R,
     plan: &Plan,
-    readies: Vec<Ready<F>>,
+    prepared: Vec<Ready<F>>,
     room: Room<F, G>,
     gate: &G,
-    overs: &[AtomicBool],
+    done_flags: &[AtomicBool],
 ) -> Result<Piped, Fault>
-    requires many { vec_len readies ≡ plan.now.predictors }
-    requires overs { length overs.now ≡ vec_len readies }
-    requires room { (vec_len readies ≤ vec_capacity room.stages) × (vec_len readies ≤ vec_capacity room.lanes) }
+    requires many { vec_len prepared ≡ plan.now.predictors }
+    requires done_flags { length done_flags.now ≡ vec_len prepared }
+    requires room { (vec_len prepared ≤ vec_capacity room.stages) × (vec_len prepared ≤ vec_capacity room.lanes) }
     requires empty { (room.stages.items ≡ []) × (room.lanes.items ≡ []) × HasWoven plan.now.params plan.now.deal room.weaver [] }
-    requires lists { AreFeeds F.predictor F.items plan.now (map (λ r. r.feed) readies.items) }
-    ensures piped { IfOk result (λ p. IsPiped F.items plan.now (map (λ r. r.feed) readies.items) p.file.items p.lanes.items) }
-    ensures early { IfErr result (λ e. EndsEarly e (λ q n. MayStop G.may_stop gate.now F.items (map (λ r. r.feed) readies.items) q n)) }
+    requires lists { AreFeeds F.predictor F.items plan.now (map (λ r. r.feed) prepared.items) }
+    ensures piped { IfOk result (λ p. IsPiped F.items plan.now (map (λ r. r.feed) prepared.items) p.file.items p.lanes.items) }
+    ensures early { IfErr result (λ e. EndsEarly e (λ q n. MayStop G.may_stop gate.now F.items (map (λ r. r.feed) prepared.items) q n)) }
 {
     thread::scope(
         thread::scope_env(),
         rt,
         move |scope| -> Result<Piped, Fault>
-            requires many { vec_len readies ≡ plan.now.predictors }
-            requires overs { length overs.now ≡ vec_len readies }
-            requires room { (vec_len readies ≤ vec_capacity room.stages) × (vec_len readies ≤ vec_capacity room.lanes) }
+            requires many { vec_len prepared ≡ plan.now.predictors }
+            requires done_flags { length done_flags.now ≡ vec_len prepared }
+            requires room { (vec_len prepared ≤ vec_capacity room.stages) × (vec_len prepared ≤ vec_capacity room.lanes) }
             requires empty { (room.stages.items ≡ []) × (room.lanes.items ≡ []) × HasWoven plan.now.params plan.now.deal room.weaver [] }
-            requires lists { AreFeeds F.predictor F.items plan.now (map (λ r. r.feed) readies.items) }
-            ensures piped { IfOk result (λ p. IsPiped F.items plan.entry.now (map (λ r. r.feed) readies.items) p.file.items p.lanes.items) }
-            ensures early { IfErr result (λ e. EndsEarly e (λ q n. MayStop G.may_stop gate.entry.now F.items (map (λ r. r.feed) readies.items) q n)) }
-        { run_in(scope, rt, plan, readies, room, gate, overs) },
+            requires lists { AreFeeds F.predictor F.items plan.now (map (λ r. r.feed) prepared.items) }
+            ensures piped { IfOk result (λ p. IsPiped F.items plan.entry.now (map (λ r. r.feed) prepared.items) p.file.items p.lanes.items) }
+            ensures early { IfErr result (λ e. EndsEarly e (λ q n. MayStop G.may_stop gate.entry.now F.items (map (λ r. r.feed) prepared.items) q n)) }
+        { run_in(scope, rt, plan, prepared, room, gate, done_flags) },
     )
 }
 
@@ -138,11 +138,11 @@ fn prepare<F: Drop>(alloc: Global, slots: u32, feeds: Vec<F>) -> Result<Vec<Read
     ensures feeds { IfOk result (λ v. map (λ r. r.feed) v.items ≡ feeds.items) }
     ensures refused { IfErr result (λ e. e ≡ WantOfMemory) }
 {
-    let mut readies = Vec::with_capacity(alloc, feeds.len())?;
+    let mut prepared = Vec::with_capacity(alloc, feeds.len())?;
     for feed in feeds {
-        readies.push_reserved(Ready::new(alloc, slots, feed)?);
+        prepared.push_reserved(Ready::new(alloc, slots, feed)?);
     }
-    Ok(readies)
+    Ok(prepared)
 }
 
 /// Starts all workers, weaves what they send, and joins them.
@@ -150,31 +150,31 @@ fn run_in<'s, E, R: Threads + Wait + Sync + 's, F: Feed + Send + 's, G: Gate + S
     scope: &Scope<'s, E>,
     rt: &'s R,
     plan: &Plan,
-    readies: Vec<Ready<F>>,
+    prepared: Vec<Ready<F>>,
     room: Room<F, G>,
     gate: &'s G,
-    overs: &'s [AtomicBool],
+    done_flags: &'s [AtomicBool],
 ) -> Result<Piped, Fault>
-    requires many { vec_len readies ≡ plan.now.predictors }
-    requires overs { length overs.now ≡ vec_len readies }
-    requires room { (vec_len readies ≤ vec_capacity room.stages) × (vec_len readies ≤ vec_capacity room.lanes) }
+    requires many { vec_len prepared ≡ plan.now.predictors }
+    requires done_flags { length done_flags.now ≡ vec_len prepared }
+    requires room { (vec_len prepared ≤ vec_capacity room.stages) × (vec_len prepared ≤ vec_capacity room.lanes) }
     requires empty { (room.stages.items ≡ []) × (room.lanes.items ≡ []) × HasWoven plan.now.params plan.now.deal room.weaver [] }
-    requires lists { AreFeeds F.predictor F.items plan.now (map (λ r. r.feed) readies.items) }
-    ensures piped { IfOk result (λ p. IsPiped F.items plan.now (map (λ r. r.feed) readies.items) p.file.items p.lanes.items) }
-    ensures early { IfErr result (λ e. EndsEarly e (λ q n. MayStop G.may_stop gate.now F.items (map (λ r. r.feed) readies.items) q n)) }
+    requires lists { AreFeeds F.predictor F.items plan.now (map (λ r. r.feed) prepared.items) }
+    ensures piped { IfOk result (λ p. IsPiped F.items plan.now (map (λ r. r.feed) prepared.items) p.file.items p.lanes.items) }
+    ensures early { IfErr result (λ e. EndsEarly e (λ q n. MayStop G.may_stop gate.now F.items (map (λ r. r.feed) prepared.items) q n)) }
 {
     let Room {
         stages,
         lanes,
         weaver,
     } = room;
-    let (mut stages, all) = start_all(scope, rt, readies, stages, gate, overs);
+    let (mut stages, all) = start_all(scope, rt, prepared, stages, gate, done_flags);
     if !all {
-        drain(rt, &mut stages, overs);
+        drain(rt, &mut stages, done_flags);
         join_all(rt, stages);
         return Err(Fault::SpawnRefused);
     }
-    weave_all(rt, plan, stages, lanes, weaver, overs)
+    weave_all(rt, plan, stages, lanes, weaver, done_flags)
 }
 
 /// Weaves what all workers send, and joins them.
@@ -184,10 +184,10 @@ fn weave_all<R: Threads + Wait, F: Feed, G: Gate>(
     stages: Vec<Stage<F, G>>,
     lanes: Vec<SettledLane>,
     weaver: Weaver,
-    overs: &[AtomicBool],
+    done_flags: &[AtomicBool],
 ) -> Result<Piped, Fault>
     requires many { vec_len stages ≡ plan.now.predictors }
-    requires overs { vec_len stages ≤ length overs.now }
+    requires done_flags { vec_len stages ≤ length done_flags.now }
     requires room { vec_len stages ≤ vec_capacity lanes }
     requires empty { (lanes.items ≡ []) × HasWoven plan.now.params plan.now.deal weaver [] }
     requires fresh { All (λ r. r ≡ []) (handed_of stages.items) }
@@ -198,10 +198,10 @@ fn weave_all<R: Threads + Wait, F: Feed, G: Gate>(
     plan.prove_is_plan();
     let mut stages = stages;
     let mut weaver = weaver;
-    match weave(rt, plan, &mut stages, overs, &mut weaver) {
+    match weave(rt, plan, &mut stages, done_flags, &mut weaver) {
         Woven::Whole => finish_woven(rt, plan, stages, lanes, weaver),
         Woven::Stopped(q, n) => {
-            drain(rt, &mut stages, overs);
+            drain(rt, &mut stages, done_flags);
             match stop_all(rt, stages) {
                 Some((predictor, sent)) => Err(Fault::Stopped { predictor, sent }),
                 None => Err(Fault::Stopped {
@@ -211,7 +211,7 @@ fn weave_all<R: Threads + Wait, F: Feed, G: Gate>(
             }
         }
         Woven::Memory => {
-            drain(rt, &mut stages, overs);
+            drain(rt, &mut stages, done_flags);
             join_all(rt, stages);
             Err(Fault::WantOfMemory)
         }

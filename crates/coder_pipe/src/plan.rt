@@ -25,9 +25,9 @@ pub struct Plan {
 }
 
 impl Model for Plan {
-    ghost use Rattle.coder_pipe.specs.Plans.{Dealing, IsPlan};
+    ghost use Rattle.coder_pipe.specs.Plans.{PlanState, IsPlan};
 
-    ghost Value = { Dealing };
+    ghost Value = { PlanState };
 
     ghost view = { λ plan. record { params = plan.params; predictors = plan.predictors; deal = plan.deal.items; slots = plan.slots } };
 

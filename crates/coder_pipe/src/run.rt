@@ -38,11 +38,11 @@ pub(crate) fn weave<R: Threads + Wait, F: Feed, G: Gate>(
     rt: &R,
     plan: &Plan,
     stages: &mut Vec<Stage<F, G>>,
-    overs: &[AtomicBool],
+    done_flags: &[AtomicBool],
     weaver: &mut Weaver,
 ) -> Woven
     requires many { vec_len stages.old ≡ plan.now.predictors }
-    requires overs { vec_len stages.old ≤ length overs.now }
+    requires done_flags { vec_len stages.old ≤ length done_flags.now }
     requires fresh { All (λ r. r ≡ []) (handed_of stages.old.items) }
     requires woven { HasWoven plan.now.params plan.now.deal weaver.old [] }
     requires lists { AreFeeds F.predictor F.items plan.now (feeds_of stages.old.items) }
@@ -58,9 +58,9 @@ pub(crate) fn weave<R: Threads + Wait, F: Feed, G: Gate>(
     let mut taken = 0;
     while taken < total {
         let gathered = if along_rows {
-            next_of_row(rt, plan, stages, overs, weaver, taken, &mut run)
+            next_of_row(rt, plan, stages, done_flags, weaver, taken, &mut run)
         } else {
-            next_of_column(rt, plan, stages, overs, weaver, taken, &mut run)
+            next_of_column(rt, plan, stages, done_flags, weaver, taken, &mut run)
         };
         match gathered {
             Ok(count) => {
@@ -90,9 +90,9 @@ fn skip_one<F: Feed, G: Gate>(stages: &mut Vec<Stage<F, G>>, q: usize) -> bool
 pub(crate) fn drain<R: Wait, F: Feed, G: Gate>(
     rt: &R,
     stages: &mut Vec<Stage<F, G>>,
-    overs: &[AtomicBool],
+    done_flags: &[AtomicBool],
 )
-    requires { vec_len stages.old ≤ length overs.now }
+    requires { vec_len stages.old ≤ length done_flags.now }
     ensures feeds { feeds_of stages.new.items ≡ feeds_of stages.old.items }
     ensures gates { gates_of stages.new.items ≡ gates_of stages.old.items }
     ensures len { vec_len stages.new ≡ vec_len stages.old }
@@ -102,7 +102,7 @@ pub(crate) fn drain<R: Wait, F: Feed, G: Gate>(
         let mut is_over = true;
         let mut is_idle = true;
         for q in 0..stages.len() {
-            is_over = overs[q].load(Ordering::SeqCst) && is_over;
+            is_over = done_flags[q].load(Ordering::SeqCst) && is_over;
             is_idle = !skip_one(stages, q) && is_idle;
         }
         if is_over {
@@ -121,23 +121,23 @@ pub(crate) fn drain<R: Wait, F: Feed, G: Gate>(
 pub(crate) fn start_all<'s, E, R: Wait + Sync + 's, F: Feed + Send + 's, G: Gate + Sync + 's>(
     scope: &Scope<'s, E>,
     rt: &'s R,
-    readies: Vec<Ready<F>>,
+    prepared: Vec<Ready<F>>,
     stages: Vec<Stage<F, G>>,
     gate: &'s G,
-    overs: &'s [AtomicBool],
+    done_flags: &'s [AtomicBool],
 ) -> (Vec<Stage<F, G>>, bool)
-    requires overs { length overs.now ≡ vec_len readies }
-    requires room { vec_len readies ≤ vec_capacity stages }
+    requires done_flags { length done_flags.now ≡ vec_len prepared }
+    requires room { vec_len prepared ≤ vec_capacity stages }
     requires empty { stages.items ≡ [] }
-    ensures feeds { IsTrue result.1 → feeds_of result.0.items ≡ map (λ r. r.feed) readies.items }
+    ensures feeds { IsTrue result.1 → feeds_of result.0.items ≡ map (λ r. r.feed) prepared.items }
     ensures gates { All (λ w. w ≡ gate.now) (gates_of result.0.items) }
     ensures handed { All (λ r. r ≡ []) (handed_of result.0.items) }
-    ensures all { IsTrue result.1 → vec_len result.0 ≡ vec_len readies }
-    ensures some { vec_len result.0 ≤ length overs.now }
+    ensures all { IsTrue result.1 → vec_len result.0 ≡ vec_len prepared }
+    ensures some { vec_len result.0 ≤ length done_flags.now }
 {
     let mut stages = stages;
-    for ready in readies {
-        let Ok(stage) = Stage::start(scope, rt, ready, gate, &overs[stages.len()]) else {
+    for ready in prepared {
+        let Ok(stage) = Stage::start(scope, rt, ready, gate, &done_flags[stages.len()]) else {
             return (stages, false);
         };
         stages.push_reserved(stage);

@@ -12,7 +12,7 @@ use cube_core::fault::Fault;
 use cube_core::order::Order;
 use cube_core::shape::Shape;
 use crate::plan::Plan;
-use file_encoding::coding_end::CodingEnd;
+use file_encoding::file_encoder::FileEncoder;
 use header_bits::params::Params;
 use std::alloc::Global;
 use std::marker::Model;
@@ -22,16 +22,16 @@ use std::marker::Model;
 /// Contracts see which numbers it has taken, in encoding order, whoever they came from.
 #[derive(Drop)]
 pub struct Weaver {
-    end: CodingEnd,
+    end: FileEncoder,
     deal: Vec<u8>,
     shape: Shape,
     order: Order,
 }
 
 impl Model for Weaver {
-    ghost use Rattle.coder_pipe.specs.Woven.{Weaving, IsAlong};
+    ghost use Rattle.coder_pipe.specs.Woven.{WeaverState, IsAlong};
 
-    ghost Value = { Weaving };
+    ghost Value = { WeaverState };
 
     ghost view = { λ w. record { end = w.end; deal = w.deal.items } };
 
@@ -50,7 +50,7 @@ impl Weaver {
     {
         plan.prove_is_plan();
         Ok(Weaver {
-            end: CodingEnd::new(alloc, params)?,
+            end: FileEncoder::new(alloc, params)?,
             deal: plan.deal().to_vec(alloc)?,
             shape: params.shape,
             order: params.order,

@@ -9,7 +9,7 @@ use crate::sample_coder::{Settings, stats_of};
 use cube_core::kind::Kind;
 use cube_core::order::Order;
 use cube_core::shape::Shape;
-use file_encoding::coding_end::CodingEnd;
+use file_encoding::file_encoder::FileEncoder;
 use header_bits::bit_writer::BitWriter;
 use header_bits::params::{Coder, CountStart, Params};
 use std::alloc::Global;
@@ -71,7 +71,7 @@ fn takes_all(rt: &impl Abort, alloc: Global, params: &Params)
     requires count { sample_count params.now.shape ≡ 65536 }
 {
     let zeros = zeros(rt, alloc, LONGEST);
-    let mut end = CodingEnd::new(alloc, params).expect(rt, "memory");
+    let mut end = FileEncoder::new(alloc, params).expect(rt, "memory");
     end.put_all(&zeros).expect(rt, "memory");
     assert!(rt; end.place().is_none());
 }

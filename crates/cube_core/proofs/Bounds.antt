@@ -38,12 +38,12 @@ middle_by false d a b = let p = power_grows (suc (d - 1)) d (omega arith) in let
 pub middle_inside : (k : SampleKind) → IsKind k → smid k ≤ℤ smax k
 middle_inside k h = middle_by k.signed k.bits h.0 h.1
 
-least_by : (signed : Bool) (bits : ℕ) → smin (record { signed = signed; bits = bits }) ≤ℤ smid (record { signed = signed; bits = bits })
-least_by true bits = omega (arith, ints)
-least_by false bits = omega (arith, ints)
+minimum_length_by : (signed : Bool) (bits : ℕ) → smin (record { signed = signed; bits = bits }) ≤ℤ smid (record { signed = signed; bits = bits })
+minimum_length_by true bits = omega (arith, ints)
+minimum_length_by false bits = omega (arith, ints)
 
 pub least_inside : (k : SampleKind) → smin k ≤ℤ smid k
-least_inside k = least_by k.signed k.bits
+least_inside k = minimum_length_by k.signed k.bits
 
 -- what two tests of a number say
 is_true : (b : Bool) → T b → b ≡ true

@@ -11,7 +11,7 @@ use Rattle.header_bits.specs.Header.{header_at, SpellsHeader, BeginsWithTable}
 use Rattle.header_bits.proofs.SpeltLawful.{spelt_is_lawful}
 use Rattle.file_decoding.specs.Decoding.{TakesCube, AnswersOr, IsNoFile, IsRefusal, ReadsFile}
 use Rattle.file_format.specs.Files.{IsFile, after_body, fill_test, body_test, head_at, file_test}
-use Rattle.file_format.specs.Least.{least_test}
+use Rattle.file_format.specs.MinimumLength.{minimum_length_test}
 use Rattle.file_format.proofs.FileLaws.{body_of_cube, after_again, file_is_fine, one_file, whole_file}
 
 -- ---- a refusal is the file's first fault
@@ -36,17 +36,17 @@ stopped bits e (inr (w, table)) = inr (w, inl table)
 
 module _ (bits : List Bool) (p : Params) (left : List Bool) (e : Fault) (header : header_at bits ≡ Ok (p, left)) where
   -- fewer bits are left than every body has
-  pub short_refused : Err e ≡ least_test (length bits) p left → IsRefusal bits e
+  pub short_refused : Err e ≡ minimum_length_test (length bits) p left → IsRefusal bits e
   unfolding file_test head_at
   short_refused short = inl (rw (header, ← short) refl)
 
   -- a body wasn't read
-  pub body_refused : fine ≡ least_test (length bits) p left → (e ≡ WantOfMemory) ⊎ (after_body (length bits) p left ≡ Err e) → IsRefusal bits e
+  pub body_refused : fine ≡ minimum_length_test (length bits) p left → (e ≡ WantOfMemory) ⊎ (after_body (length bits) p left ≡ Err e) → IsRefusal bits e
   unfolding file_test head_at body_test
   body_refused enough (inl w) = inr (w, inr ((p, left), rw (header, ← enough) refl))
   body_refused enough (inr b) = inl (rw (header, ← enough, b) refl)
 
-  pub fill_refused : fine ≡ least_test (length bits) p left → (c : Image) (fill : List Bool) → IsLawful p → TakesCube p c left fill
+  pub fill_refused : fine ≡ minimum_length_test (length bits) p left → (c : Image) (fill : List Bool) → IsLawful p → TakesCube p c left fill
       → Err e ≡ fill_test p.word fill → IsRefusal bits e
   unfolding file_test head_at body_test
   fill_refused enough c fill lawful t f =

@@ -22,15 +22,15 @@ use Rattle.block_adaptive.specs.Settings.{IsBlock}
 use Rattle.block_adaptive.specs.Given.{ReaderState, given_count, GivesMoreOf}
 use Rattle.block_adaptive.specs.Reading.{block_body_at}
 use Rattle.block_adaptive.proofs.Given.{block_is, given_whole as blocks_whole}
-use Rattle.file_decoding.specs.declared.decoder.Decoder.{Decoder}
-use Rattle.file_decoding.specs.declared.decoder.Decoder.TheVariants.{Samples, Blocks}
+use Rattle.file_decoding.specs.declared.decoder.EntropyDecoder.{EntropyDecoder}
+use Rattle.file_decoding.specs.declared.decoder.EntropyDecoder.TheVariants.{Samples, Blocks}
 use Rattle.file_decoding.specs.Decoding.{HasGiven, MayAskEach, GivesAll, GivesMore, GivesEach}
 use Rattle.file_format.specs.Files.{IsBody, after_body}
 
 -- ---- what may be asked for
 
 -- numbers that may be asked for are at places of the order, of a band of the image
-within : {d : Decoder} {zs ts : ℕ → ℕ} {index count : ℕ} (m : MayAskEach d zs ts index count) (i : ℕ) → i < count
+within : {d : EntropyDecoder} {zs ts : ℕ → ℕ} {index count : ℕ} (m : MayAskEach d zs ts index count) (i : ℕ) → i < count
     → (length m.numbers + i < sample_count m.params.shape) × (zs i < m.params.shape.bands)
 within m i lt =
     let long : length (m.numbers ++ replicate i 0) ≡ length m.numbers + i = omega (arith, length-append {A = ℕ}, length-replicate {A = ℕ}) in
@@ -40,11 +40,11 @@ within m i lt =
     (omega (arith, there, long, length-places m.params.shape m.params.order m.lawful.order), omega (arith, place.band, next.2))
 
 -- a coder has the bands of so many numbers, or room for them
-abbrev MayGive : Decoder → (ℕ → ℕ) → ℕ → Type 0
+abbrev MayGive : EntropyDecoder → (ℕ → ℕ) → ℕ → Type 0
 MayGive (Samples v) zs count = (i : ℕ) → i < count → zs i < length v.bands
 MayGive (Blocks v) zs count = given_count v + count ≤ capacity v.cut
 
-pub may_give : (d : Decoder) {zs ts : ℕ → ℕ} {index count : ℕ} → MayAskEach d zs ts index count → 1 ≤ count → MayGive d zs count
+pub may_give : (d : EntropyDecoder) {zs ts : ℕ → ℕ} {index count : ℕ} → MayAskEach d zs ts index count → 1 ≤ count → MayGive d zs count
 may_give (Samples v) m some = λ i lt. omega (arith, m.given.bands, (within m i lt).1)
 may_give (Blocks v) {count = count} m some = omega (arith, some, m.given.count, m.given.room.room, (within m (count - 1) (omega (arith, some))).0)
 
@@ -76,7 +76,7 @@ blocks_give numbers_of (Err fault) p numbers bits unread new left coder did =
     rw k.3 (rw (rw k.3 at did) refl)
 
 -- more after them
-pub gives_after : (p : Params) (mid new : Decoder) (numbers : List ℕ) (bits unread now left : List Bool) (count : ℕ) (xs ys : List ℕ)
+pub gives_after : (p : Params) (mid new : EntropyDecoder) (numbers : List ℕ) (bits unread now left : List Bool) (count : ℕ) (xs ys : List ℕ)
     (r : Result (Unit {0}) Fault) (g : GivesAll p mid numbers bits unread now xs)
     → GivesMore (λ _. ys) r p (numbers ++ xs) (bits ++ g.1) (record { count = count; left = now }) new left
     → GivesMore (λ _. xs ++ ys) r p numbers bits (record { count = count; left = unread }) new left
@@ -86,7 +86,7 @@ gives_after p mid new numbers bits unread now left count xs ys (Err fault) g bad
 
 -- ---- where all are given, the bits are a body of them
 
-pub given_whole : (p : Params) (d : Decoder) (numbers : List ℕ) (bits : List Bool) → IsLawful p → HasGiven p d numbers bits
+pub given_whole : (p : Params) (d : EntropyDecoder) (numbers : List ℕ) (bits : List Bool) → IsLawful p → HasGiven p d numbers bits
     → length numbers ≡ sample_count p.shape → IsBody p numbers bits
 given_whole p (Samples v) numbers bits lawful h long =
     let k = sample_is p.coder h.coder in

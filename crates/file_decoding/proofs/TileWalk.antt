@@ -25,7 +25,7 @@ use Rattle.predict_core.proofs.Walking.{IsOnWalk, all_places, gone_by, gone_coun
 use Rattle.predict_core.proofs.Walking.{tile_fits, tile_item}
 use Rattle.predict_core.proofs.Kept.{residuals_same}
 use Rattle.file_decoding.specs.declared.tile.Tile.{Tile}
-use Rattle.file_decoding.specs.declared.decoder.Decoder.{Decoder}
+use Rattle.file_decoding.specs.declared.decoder.EntropyDecoder.{EntropyDecoder}
 use Rattle.file_decoding.specs.Decoding.{AreEach, MayAskEach, MayAskColumn, GivesAll, HasGiven, TakesCube}
 use Rattle.file_decoding.specs.Tiles.{IsInOrder, start_of, band_in, time_in, ComeTo, IsFilled}
 use Rattle.file_decoding.proofs.Givers.{given_whole}
@@ -46,8 +46,8 @@ pub run_times : (tile : Tile) (t : ℕ) → tile.bands ≡ 1 → time_in tile t 
 run_times tile t one = fun_ext (λ i. rw one (ap (λ (k : ℕ). t + k) (div-one i)))
 
 -- a column of a tile, after those before it
-abbrev pub as_column : (tile : Tile) (t : ℕ) {index count : ℕ} {d : Decoder} (m : MayAskEach d (band_in tile) (time_in tile t) index count) (i size : ℕ)
-    (mid : Decoder) (unread now : List Bool) (xs : List ℕ) → i < tile.columns → length xs ≡ i * tile.bands → size ≡ tile.bands
+abbrev pub as_column : (tile : Tile) (t : ℕ) {index count : ℕ} {d : EntropyDecoder} (m : MayAskEach d (band_in tile) (time_in tile t) index count) (i size : ℕ)
+    (mid : EntropyDecoder) (unread now : List Bool) (xs : List ℕ) → i < tile.columns → length xs ≡ i * tile.bands → size ≡ tile.bands
     → count ≡ tile.columns * tile.bands → GivesAll m.params mid m.numbers m.bits unread now xs
     → MayAskColumn mid tile.place.z (t + i) (index + i * tile.bands) size
 as_column tile t m i size mid unread now xs column before whole all g = record {
@@ -67,7 +67,7 @@ as_column tile t m i size mid unread now xs column before whole all g = record {
 -- ---- where a tile begins
 
 -- the reading end has given the residuals that the image has at the places gone by, and has read the bits from `start` on
-pub record IsWalked (p : Params) (c : Image) (left : List Place) (bands : List Learner) (d : Decoder) (start now : List Bool) : Type 0 where
+pub record IsWalked (p : Params) (c : Image) (left : List Place) (bands : List Learner) (d : EntropyDecoder) (start now : List Bool) : Type 0 where
   pub shape : c.shape ≡ p.shape
   pub kind : c.kind ≡ p.kind
   pub walk : IsOnWalk p c left bands
@@ -75,7 +75,7 @@ pub record IsWalked (p : Params) (c : Image) (left : List Place) (bands : List L
   pub text : start ≡ read ++ now
   pub given : HasGiven p d (residuals_at p c (gone_by p left)) read
 
-module _ {p : Params} {c : Image} {left : List Place} {bands : List Learner} {d : Decoder} {start now : List Bool} (lawful : IsLawful p)
+module _ {p : Params} {c : Image} {left : List Place} {bands : List Learner} {d : EntropyDecoder} {start now : List Bool} (lawful : IsLawful p)
     (w : IsWalked p c left bands d start now) where
   pub numbers_long : length (residuals_at p c (gone_by p left)) ≡ gone_count p left
   numbers_long =
@@ -116,7 +116,7 @@ module _ {p : Params} {c : Image} {left : List Place} {bands : List Learner} {d 
     }
 
     -- the residuals of the tile were given: the image with its samples has them
-    module _ {e : Image} {after : List Learner} (new : Decoder) {later : List Bool} (deltas : List ℕ) (filled : IsFilled p c e tile after deltas)
+    module _ {e : Image} {after : List Learner} (new : EntropyDecoder) {later : List Bool} (deltas : List ℕ) (filled : IsFilled p c e tile after deltas)
         (alike : AreAlike c e) (gives : GivesAll p new (residuals_at p c (gone_by p left)) w.read now later deltas)
         (long : length deltas ≡ tile.columns * tile.bands) (many : length after ≡ length bands) where
       value : (k : ℕ) → k < length deltas

@@ -14,38 +14,38 @@ use Rattle.sample_adaptive.specs.Reading.{fault_at}
 use Rattle.sample_adaptive.specs.Given.{HasGiven as GivenBySamples, IsNext}
 use Rattle.block_adaptive.specs.Given.{given_count, HasGivenOf}
 use Rattle.block_adaptive.specs.DataSets.{capacity}
-use Rattle.file_decoding.specs.declared.decoder.Decoder.{Decoder}
-use Rattle.file_decoding.specs.declared.decoder.Decoder.TheVariants.{Samples, Blocks}
+use Rattle.file_decoding.specs.declared.decoder.EntropyDecoder.{EntropyDecoder}
+use Rattle.file_decoding.specs.declared.decoder.EntropyDecoder.TheVariants.{Samples, Blocks}
 use Rattle.file_format.specs.Files.{IsBody, IsFile, after_body, head_at, file_test}
 
 -- the coder of parameters has given the numbers, and has read the bits
-abbrev pub HasGiven : Params → Decoder → List ℕ → List Bool → Type 0
+abbrev pub HasGiven : Params → EntropyDecoder → List ℕ → List Bool → Type 0
 HasGiven p (Samples v) numbers bits = GivenBySamples p v numbers bits
 HasGiven p (Blocks v) numbers bits = HasGivenOf p v numbers bits
 
 -- what every call is refused for, where one was refused
-abbrev pub refusal_at : ℕ → Decoder → Option Fault
+abbrev pub refusal_at : ℕ → EntropyDecoder → Option Fault
 refusal_at index (Samples v) = option_map (fault_at index) v.refused
 refusal_at index (Blocks v) = v.refused
 
 -- a number of band z may be asked for
-abbrev pub MayAsk : Decoder → ℕ → Type 0
+abbrev pub MayAsk : EntropyDecoder → ℕ → Type 0
 MayAsk (Samples v) z = z < length v.bands
 MayAsk (Blocks v) z = given_count v < capacity v.cut
 
 -- bits were read, and with them these numbers more are given, each in range
-abbrev pub GivesAll : Params → Decoder → List ℕ → List Bool → List Bool → List Bool → List ℕ → Type 0
+abbrev pub GivesAll : Params → EntropyDecoder → List ℕ → List Bool → List Bool → List Bool → List ℕ → Type 0
 GivesAll p new numbers bits unread left list =
     AllByRecursion (λ n. n < 2 ^ p.kind.bits) list × (read : List Bool) × (unread ≡ read ++ left) × HasGiven p new (numbers ++ list) (bits ++ read)
 
 -- the numbers of the answer more are given, or the refusal is that of the body
-abbrev pub GivesMore : {X : Type 0} → (X → List ℕ) → Result X Fault → Params → List ℕ → List Bool → Unread → Decoder → List Bool → Type 0
+abbrev pub GivesMore : {X : Type 0} → (X → List ℕ) → Result X Fault → Params → List ℕ → List Bool → Unread → EntropyDecoder → List Bool → Type 0
 GivesMore numbers_of result p numbers bits unread new left =
     MatchResult result (λ answer. GivesAll p new numbers bits unread.left left (numbers_of answer))
     (λ fault. after_body unread.count p (bits ++ unread.left) ≡ Err fault)
 
 -- whatever numbers were given before: the next one is given, or the refusal is that of the body
-abbrev pub GivesNumber : ℕ → ℕ → ℕ → Result ℕ Fault → Decoder → Unread → Decoder → List Bool → Type 0
+abbrev pub GivesNumber : ℕ → ℕ → ℕ → Result ℕ Fault → EntropyDecoder → Unread → EntropyDecoder → List Bool → Type 0
 GivesNumber z t index result old unread new left =
     (p : Params) (numbers : List ℕ) (bits : List Bool) → IsLawful p → HasGiven p old numbers bits → IsNext p numbers z t → index ≡ length numbers
     → GivesMore (λ number. number ∷ []) result p numbers bits unread new left
@@ -63,7 +63,7 @@ abbrev pub AreAbove : Params → ℕ → ℕ → ℕ → ℕ → Type 0
 AreAbove p n z t count = AreEach p n (λ i. z + i) (λ i. t) count
 
 -- such numbers may be asked for, one after another: of some parameters the first of them stands at the index
-pub record MayAskEach (d : Decoder) (zs ts : ℕ → ℕ) (index count : ℕ) : Type 0 where
+pub record MayAskEach (d : EntropyDecoder) (zs ts : ℕ → ℕ) (index count : ℕ) : Type 0 where
   pub params : Params
   pub numbers : List ℕ
   pub bits : List Bool
@@ -73,24 +73,24 @@ pub record MayAskEach (d : Decoder) (zs ts : ℕ → ℕ) (index count : ℕ) : 
   pub ask : AreEach params (length numbers) zs ts count
 
 -- so many numbers of band z, from its number t on
-abbrev pub MayAskAll : Decoder → ℕ → ℕ → ℕ → ℕ → Type 0
+abbrev pub MayAskAll : EntropyDecoder → ℕ → ℕ → ℕ → ℕ → Type 0
 MayAskAll d z t index count = MayAskEach d (λ i. z) (λ i. t + i) index count
 
 -- number t of each of so many bands, from band z on
-abbrev pub MayAskColumn : Decoder → ℕ → ℕ → ℕ → ℕ → Type 0
+abbrev pub MayAskColumn : EntropyDecoder → ℕ → ℕ → ℕ → ℕ → Type 0
 MayAskColumn d z t index count = MayAskEach d (λ i. z + i) (λ i. t) index count
 
 -- wherever the next ones, of such bands, may be asked for: they are given, or the refusal is that of the body
-abbrev pub GivesEach : (ℕ → ℕ) → (ℕ → ℕ) → ℕ → Result (Unit {0}) Fault → Decoder → Unread → Decoder → List Bool → List ℕ → Type 0
+abbrev pub GivesEach : (ℕ → ℕ) → (ℕ → ℕ) → ℕ → Result (Unit {0}) Fault → EntropyDecoder → Unread → EntropyDecoder → List Bool → List ℕ → Type 0
 GivesEach zs ts index result old unread new left list =
     (m : MayAskEach old zs ts index (length list)) → GivesMore (λ _. list) result m.params m.numbers m.bits unread new left
 
 -- those of band z, from its number t on
-abbrev pub GivesRun : ℕ → ℕ → ℕ → Result (Unit {0}) Fault → Decoder → Unread → Decoder → List Bool → List ℕ → Type 0
+abbrev pub GivesRun : ℕ → ℕ → ℕ → Result (Unit {0}) Fault → EntropyDecoder → Unread → EntropyDecoder → List Bool → List ℕ → Type 0
 GivesRun z t index result old unread new left list = GivesEach (λ i. z) (λ i. t + i) index result old unread new left list
 
 -- number t of each band, from band z on
-abbrev pub GivesColumn : ℕ → ℕ → ℕ → Result (Unit {0}) Fault → Decoder → Unread → Decoder → List Bool → List ℕ → Type 0
+abbrev pub GivesColumn : ℕ → ℕ → ℕ → Result (Unit {0}) Fault → EntropyDecoder → Unread → EntropyDecoder → List Bool → List ℕ → Type 0
 GivesColumn z t index result old unread new left list = GivesEach (λ i. z + i) (λ i. t) index result old unread new left list
 
 -- the bits begin with a body of the cube's residuals, and these are left

@@ -13,8 +13,8 @@ ghost use Rattle.file_format.specs.Files.{IsFile, after_body, fill_test, head_at
 ghost use Rattle.cube_core.specs.Order.{IsPlaceOf, goes_along_rows};
 ghost use Rattle.file_decoding.specs.Decoding.{TakesCube, AnswersOr, IsNoFile, ReadsFile};
 
-use crate::decoder::Decoder;
-use crate::least::test_length;
+use crate::decoder::EntropyDecoder;
+use crate::minimum_length::test_length;
 use crate::tile::{COLUMNS, Tile, most_bands};
 use cube_core::cube::Cube;
 use cube_core::cursor::Places;
@@ -29,7 +29,7 @@ use std::alloc::Global;
 /// Returns the parameters and the cube of a file of at most 2^60 bytes.
 ///
 /// The refusals, in this order: those of the header, however little memory there is; `WantOfMemory` if the header's
-/// tables can't be allocated; `Truncated` if fewer bits follow the header than `least_length`; `WantOfMemory`;
+/// tables can't be allocated; `Truncated` if fewer bits follow the header than `minimum_length`; `WantOfMemory`;
 /// the first fault of the body in bit order, which is `Truncated`, `BadCode`, `BadOption` or `RunPastSegment`;
 /// `TooLong` if the bits of an output word or more follow the body; `BadFill` if one of the fill bits is a one. So
 /// nothing is allocated before the first `Truncated` where the header has no table. `Truncated` has the number of the
@@ -80,7 +80,7 @@ fn take_cube(alloc: Global, params: &Params, reader: &mut BitReader) -> Result<C
     // The predictors, and the residuals below, are borrowed as slices, whose lengths stay.
     let mut predictors = all_bands(alloc, params)?;
     let bands = &mut predictors[..];
-    let mut decoder = Decoder::new(alloc, params)?;
+    let mut decoder = EntropyDecoder::new(alloc, params)?;
     let mut residuals = vec![in alloc; 0u16; COLUMNS * most_bands(params.order) as usize]?;
     let room = &mut residuals[..];
     let count = params.shape.sample_count();

@@ -7,7 +7,7 @@ ghost use Rattle.header_bits.specs.Lawful.{IsLawful};
 ghost use Rattle.block_adaptive.specs.Settings.{IsBlock};
 ghost use Rattle.block_adaptive.specs.Given.{given_count};
 ghost use Rattle.block_adaptive.specs.DataSets.{capacity};
-ghost use Rattle.file_decoding.specs.declared.decoder.Decoder.TheVariants.{Blocks};
+ghost use Rattle.file_decoding.specs.declared.decoder.EntropyDecoder.TheVariants.{Blocks};
 ghost use Rattle.file_decoding.specs.Decoding.{HasGiven, MayAsk, MayAskAll, MayAskColumn, GivesNumber, GivesEach, GivesRun, GivesColumn, refusal_at};
 
 use block_adaptive::block_reader::BlockReader;
@@ -19,25 +19,25 @@ use std::alloc::Global;
 
 /// The entropy coder that an image's parameters name, as it reads.
 #[derive(Drop)]
-pub enum Decoder {
+pub enum EntropyDecoder {
     Samples(Stats),
     Blocks(BlockReader),
 }
 
-impl Decoder {
+impl EntropyDecoder {
     /// Returns the coder of an image, which has returned no residual.
     ///
     /// Returns `WantOfMemory` if the statistics of all bands can't be allocated; the block-adaptive coder allocates
     /// nothing.
-    pub fn new(alloc: Global, params: &Params) -> Result<Decoder, Fault>
+    pub fn new(alloc: Global, params: &Params) -> Result<EntropyDecoder, Fault>
         requires { IsLawful params.now }
         ensures given { IfOk result (λ coder. HasGiven params.now coder [] []) }
         ensures refused { IfErr result (λ e. e ≡ WantOfMemory) }
         ensures blocks { IsBlock params.now.coder → IsOk result }
     {
         match params.coder {
-            Coder::Sample { .. } => Ok(Decoder::Samples(Stats::new(alloc, params)?)),
-            Coder::Block { .. } => Ok(Decoder::Blocks(BlockReader::new(params))),
+            Coder::Sample { .. } => Ok(EntropyDecoder::Samples(Stats::new(alloc, params)?)),
+            Coder::Block { .. } => Ok(EntropyDecoder::Blocks(BlockReader::new(params))),
         }
     }
 
@@ -57,8 +57,8 @@ impl Decoder {
         ensures count { reader.new.count ≡ reader.old.count }
     {
         match self {
-            Decoder::Samples(stats) => stats.get_at(z, t, index, reader),
-            Decoder::Blocks(blocks) => blocks.next(reader),
+            EntropyDecoder::Samples(stats) => stats.get_at(z, t, index, reader),
+            EntropyDecoder::Blocks(blocks) => blocks.next(reader),
         }
     }
 
@@ -83,8 +83,8 @@ impl Decoder {
         ensures long { length deltas.new ≡ length deltas.old }
     {
         match self {
-            Decoder::Samples(stats) => stats.get_run(z, t, index, reader, deltas),
-            Decoder::Blocks(blocks) => next_of_blocks(blocks, reader, deltas),
+            EntropyDecoder::Samples(stats) => stats.get_run(z, t, index, reader, deltas),
+            EntropyDecoder::Blocks(blocks) => next_of_blocks(blocks, reader, deltas),
         }
     }
 
@@ -109,8 +109,8 @@ impl Decoder {
         ensures long { length deltas.new ≡ length deltas.old }
     {
         match self {
-            Decoder::Samples(stats) => stats.get_column(z, t, index, reader, deltas),
-            Decoder::Blocks(blocks) => next_of_blocks(blocks, reader, deltas),
+            EntropyDecoder::Samples(stats) => stats.get_column(z, t, index, reader, deltas),
+            EntropyDecoder::Blocks(blocks) => next_of_blocks(blocks, reader, deltas),
         }
     }
 }

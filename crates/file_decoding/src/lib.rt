@@ -3,5 +3,5 @@
 
 pub mod decode;
 pub mod decoder;
-pub mod least;
+pub mod minimum_length;
 mod tile;

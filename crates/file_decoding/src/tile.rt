@@ -9,7 +9,7 @@ ghost use Rattle.predict_core.specs.Precedence.{AreAlike};
 ghost use Rattle.file_decoding.specs.Decoding.{MayAskEach, GivesEach};
 ghost use Rattle.file_decoding.specs.Tiles.{IsTile, ComeTo, IsFilled, band_in, time_in};
 
-use crate::decoder::Decoder;
+use crate::decoder::EntropyDecoder;
 use cube_core::cube::Cube;
 use cube_core::fault::Fault;
 use cube_core::order::{Order, Place};
@@ -79,7 +79,7 @@ impl Tile {
     /// it returns the first fault of the body, and what is in `deltas` is unspecified.
     pub(crate) fn read(
         &self,
-        decoder: &mut Decoder,
+        decoder: &mut EntropyDecoder,
         t: u64,
         index: u64,
         reader: &mut BitReader,

@@ -26,8 +26,8 @@ use Rattle.block_adaptive.specs.Chosen.{chosen_block_body}
 use Rattle.block_adaptive.specs.DataSets.{Cut}
 use Rattle.block_adaptive.specs.Segments.{block_count}
 use Rattle.block_adaptive.specs.Taken.{WriterState, taken_count, PutsAll as PutsList, EndsBody as EndsBlocks}
-use Rattle.file_encoding.specs.declared.encoder.Encoder.{Encoder}
-use Rattle.file_encoding.specs.declared.encoder.Encoder.TheVariants.{Samples, Blocks}
+use Rattle.file_encoding.specs.declared.encoder.EntropyEncoder.{EntropyEncoder}
+use Rattle.file_encoding.specs.declared.encoder.EntropyEncoder.TheVariants.{Samples, Blocks}
 use Rattle.file_format.specs.File.{body_of, body_by}
 use Rattle.sample_adaptive.specs.Given.{places_of}
 use Rattle.file_encoding.specs.Coding.{places_after, of_band, SamplesTaken, HasTaken, MayPut, PutsResidual, PutsRun, PutsColumn, PutsBlocks, EndsBody}
@@ -145,7 +145,7 @@ blocks_end v written now ends p numbers bits h lawful long =
 -- ---- what may be put
 
 -- where fewer numbers were taken than there are samples, one more may be put
-pub may_put : (p : Params) (e : Encoder) (numbers : List ℕ) (bits : List Bool) (z number : ℕ) → HasTaken p e numbers bits
+pub may_put : (p : Params) (e : EntropyEncoder) (numbers : List ℕ) (bits : List Bool) (z number : ℕ) → HasTaken p e numbers bits
     → length numbers < sample_count p.shape → z < p.shape.bands → number < 2 ^ p.kind.bits → MayPut e z number
 may_put p (Samples v) numbers bits z number h few band range = (omega (arith, h.bands, band), rw h.depth range)
 may_put p (Blocks v) numbers bits z number h few band range = (omega (arith, h.count, few, h.room.room), rw (cut_bits p v.cut h.cut) range)

@@ -13,7 +13,7 @@ use Rattle.header_bits.specs.declared.params.Params.{Params}
 use Rattle.header_bits.specs.Lawful.{IsLawful}
 use Rattle.predict_core.specs.Following.{Learner}
 use Rattle.sample_prediction.specs.Residual.{residuals}
-use Rattle.file_encoding.specs.Ends.{Ending, HasCoded, MayCodeAll}
+use Rattle.file_encoding.specs.Ends.{FileEncoderState, HasCoded, MayCodeAll}
 use Rattle.predict_core.specs.Walked.{IsAlong, AreAlong}
 use Rattle.predict_core.proofs.OneCube.{residuals_inside}
 use Rattle.file_encoding.specs.Own.{own, own_residuals, owners_of, part}
@@ -65,7 +65,7 @@ all_residuals p c lawful shape =
     ∙ part_all (places p.shape p.order) (residuals p c) (length-all p c lawful shape ∙ sym (length-places p.shape p.order lawful))
 
 -- they may be taken by a coding end that has taken nothing
-pub may_take : (p : Params) (c : Image) (e : Ending) → IsLawful p → IsSeen p c → IsCube c → HasCoded p e [] → MayCodeAll e (own_residuals p c 0 [] p.order)
+pub may_take : (p : Params) (c : Image) (e : FileEncoderState) → IsLawful p → IsSeen p c → IsCube c → HasCoded p e [] → MayCodeAll e (own_residuals p c 0 [] p.order)
 may_take p c e lawful seen cube coded = subst (MayCodeAll e) (sym (all_residuals p c lawful.order seen.shape)) (record {
   params = p;
   numbers = [];
@@ -77,6 +77,6 @@ may_take p c e lawful seen cube coded = subst (MayCodeAll e) (sym (all_residuals
 })
 
 -- and then no place is left
-pub none_left : (p : Params) (c : Image) (e : Ending) → IsOrder p.shape p.order → c.shape ≡ p.shape → HasCoded p e (residuals p c) → e.left ≡ []
+pub none_left : (p : Params) (c : Image) (e : FileEncoderState) → IsOrder p.shape p.order → c.shape ≡ p.shape → HasCoded p e (residuals p c) → e.left ≡ []
 none_left p c e lawful shape coded =
     coded.left ∙ drop_all (length (residuals p c)) (places p.shape p.order) (omega (arith, length-all p c lawful shape, length-places p.shape p.order lawful))

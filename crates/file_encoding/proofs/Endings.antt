@@ -14,7 +14,7 @@ use Rattle.header_bits.specs.declared.params.Params.{Params}
 use Rattle.header_bits.specs.Header.{header_of}
 use Rattle.sample_adaptive.proofs.Times.{number_of_place}
 use Rattle.file_encoding.specs.Coding.{TimeOfPlace, of_band, HasTaken, MayPut, PutsResidual, EndsBody}
-use Rattle.file_encoding.specs.Ends.{Ending, HasCoded, MayCode, CodesAll}
+use Rattle.file_encoding.specs.Ends.{FileEncoderState, HasCoded, MayCode, CodesAll}
 use Rattle.file_format.specs.File.{body_of, filled, packed, file_bits, file_of_residuals}
 use Rattle.file_encoding.proofs.Coders.{may_put}
 
@@ -24,42 +24,42 @@ time_of_place p numbers q lawful at = number_of_place p.shape p.order numbers q 
 -- ---- the places to come
 
 -- each of them is a place of the image
-pub place_left : (p : Params) (e : Ending) (numbers : List ℕ) (i : ℕ) (q : Place) → HasCoded p e numbers → slice_get e.left i ≡ Some q → IsPlaceOf p.shape q
+pub place_left : (p : Params) (e : FileEncoderState) (numbers : List ℕ) (i : ℕ) (q : Place) → HasCoded p e numbers → slice_get e.left i ≡ Some q → IsPlaceOf p.shape q
 place_left p e numbers i q h item =
     (order_is_by_key p.shape p.order h.order).only (length numbers + i) q
     (sym (get_drop (places p.shape p.order) (length numbers) i) ∙ ap (λ qs. slice_get qs i) (sym h.left) ∙ item)
 
 -- the first is the one after those of the numbers
-pub item_next : (p : Params) (e : Ending) (numbers : List ℕ) (q : Place) → HasCoded p e numbers → slice_get e.left 0 ≡ Some q
+pub item_next : (p : Params) (e : FileEncoderState) (numbers : List ℕ) (q : Place) → HasCoded p e numbers → slice_get e.left 0 ≡ Some q
     → slice_get (places p.shape p.order) (length numbers) ≡ Some q
 item_next p e numbers q h next = sym (get-drop (places p.shape p.order) (length numbers)) ∙ ap (λ qs. slice_get qs 0) (sym h.left) ∙ next
 
 -- and its number is the next one of its band
-pub time_next : (p : Params) (e : Ending) (numbers : List ℕ) (q : Place) (t : ℕ) → HasCoded p e numbers → slice_get e.left 0 ≡ Some q
+pub time_next : (p : Params) (e : FileEncoderState) (numbers : List ℕ) (q : Place) (t : ℕ) → HasCoded p e numbers → slice_get e.left 0 ≡ Some q
     → t ≡ q.y * e.columns + q.x → t ≡ length (of_band p numbers q.z)
 time_next p e numbers q t h next time =
     time ∙ ap (λ n. q.y * n + q.x) h.columns ∙ sym (time_of_place p numbers q h.order (item_next p e numbers q h next))
 
 -- as many are to come as there are samples after the numbers
-pub length-left : (p : Params) (e : Ending) (numbers : List ℕ) → HasCoded p e numbers → length e.left ≡ sample_count p.shape - length numbers
+pub length-left : (p : Params) (e : FileEncoderState) (numbers : List ℕ) → HasCoded p e numbers → length e.left ≡ sample_count p.shape - length numbers
 length-left p e numbers h = rw (h.left, length-drop, length-places p.shape p.order h.order) refl
 
 -- ---- one number more
 
-pub may_take : (e : Ending) (place : Place) (number : ℕ) → slice_get e.left 0 ≡ Some place → MayCode e number → MayPut e.coder place.z number
+pub may_take : (e : FileEncoderState) (place : Place) (number : ℕ) → slice_get e.left 0 ≡ Some place → MayCode e number → MayPut e.coder place.z number
 may_take e place number next may =
     may_put may.params e.coder may.numbers may.coded.written place.z number may.coded.taken may.more
     (place_left may.params e may.numbers 0 place may.coded next).band may.range
 
 -- where fewer numbers were taken than there are samples, a place is to come
-pub comes_next : (p : Params) (e : Ending) (numbers : List ℕ) → HasCoded p e numbers → length numbers < sample_count p.shape → None ≡ slice_get e.left 0 → ⊥
+pub comes_next : (p : Params) (e : FileEncoderState) (numbers : List ℕ) → HasCoded p e numbers → length numbers < sample_count p.shape → None ≡ slice_get e.left 0 → ⊥
 comes_next p e numbers h more none = omega (arith, length-left p e numbers h, more, ap (λ (qs : List Place). length qs) (none_first e.left (sym none)))
 
-pub place_comes : (e : Ending) (number : ℕ) → MayCode e number → None ≡ slice_get e.left 0 → ⊥
+pub place_comes : (e : FileEncoderState) (number : ℕ) → MayCode e number → None ≡ slice_get e.left 0 → ⊥
 place_comes e number may none = comes_next may.params e may.numbers may.coded may.more none
 
 -- what the entropy coder has taken, the coding end has
-pub coded_after : (old new : Ending) (list : List ℕ) (p : Params) (numbers : List ℕ) (h : HasCoded p old numbers)
+pub coded_after : (old new : FileEncoderState) (list : List ℕ) (p : Params) (numbers : List ℕ) (h : HasCoded p old numbers)
     → length numbers + length list ≤ length (places p.shape p.order) → new.left ≡ drop (length list) old.left → new.columns ≡ old.columns → new.word ≡ old.word
     → (more : List Bool) → new.bits ≡ old.bits ++ more → HasTaken p new.coder (numbers ++ list) (h.written ++ more)
     → HasCoded p new (numbers ++ list)
@@ -75,7 +75,7 @@ coded_after old new list p numbers h fits moved columns word more grown taken = 
 }
 
 -- the next place's residual was put
-pub coded_more : (old new : Ending) (place : Place) (t number : ℕ) → old.left ≡ place ∷ new.left → t ≡ place.y * old.columns + place.x
+pub coded_more : (old new : FileEncoderState) (place : Place) (t number : ℕ) → old.left ≡ place ∷ new.left → t ≡ place.y * old.columns + place.x
     → new.columns ≡ old.columns → new.word ≡ old.word → PutsResidual place.z t number old.coder old.bits new.coder new.bits → CodesAll old new (number ∷ [])
 coded_more old new place t number moved time columns word puts p numbers h =
     let next : slice_get old.left 0 ≡ Some place = rw moved refl in
@@ -87,7 +87,7 @@ coded_more old new place t number moved time columns word puts p numbers h =
 -- ---- the file
 
 -- the bytes of what was written, once the body was ended and filled
-pub is_file : (e : Ending) (ended full : List Bool) (bytes : List ℕ) → e.left ≡ [] → EndsBody e.coder e.bits ended → full ≡ filled e.word ended
+pub is_file : (e : FileEncoderState) (ended full : List Bool) (bytes : List ℕ) → e.left ≡ [] → EndsBody e.coder e.bits ended → full ≡ filled e.word ended
     → bytes ≡ packed full → (p : Params) (numbers : List ℕ) → HasCoded p e numbers → bytes ≡ file_of_residuals numbers p
 unfolding file_bits file_of_residuals
 is_file e ended full bytes none ends fills packs p numbers h =

@@ -18,10 +18,10 @@ use Rattle.header_bits.specs.declared.params.Coder.TheVariants.{Sample, Block}
 use Rattle.header_bits.proofs.Items.{all_take, all_drop}
 use Rattle.sample_adaptive.specs.Settings.{IsSample}
 use Rattle.block_adaptive.specs.Settings.{IsBlock}
-use Rattle.file_encoding.specs.declared.encoder.Encoder.{Encoder}
-use Rattle.file_encoding.specs.declared.encoder.Encoder.TheVariants.{Samples, Blocks}
+use Rattle.file_encoding.specs.declared.encoder.EntropyEncoder.{EntropyEncoder}
+use Rattle.file_encoding.specs.declared.encoder.EntropyEncoder.TheVariants.{Samples, Blocks}
 use Rattle.file_encoding.specs.Coding.{HasTaken, IsRun, IsBySamples, IsByBlocks, MayPutRun, MayPutBlocks, PutsRun, PutsBlocks}
-use Rattle.file_encoding.specs.Ends.{Ending, HasCoded, MayCodeAll, MayCodeRun, CodesAll}
+use Rattle.file_encoding.specs.Ends.{FileEncoderState, HasCoded, MayCodeAll, MayCodeRun, CodesAll}
 use Rattle.block_adaptive.proofs.Given.{cut_bits}
 use Rattle.file_encoding.proofs.Endings.{place_left, time_next, length-left, comes_next, coded_after}
 
@@ -55,23 +55,23 @@ rows_follow s o lawful along i q e lt =
 
 -- ---- numbers after others
 
-pub codes_none : (e : Ending) → CodesAll e e []
+pub codes_none : (e : FileEncoderState) → CodesAll e e []
 codes_none e p numbers h = rw (append-nil numbers) h
 
-pub codes_after : (a b d : Ending) (xs ys : List ℕ) → CodesAll a b xs → CodesAll b d ys → CodesAll a d (xs ++ ys)
+pub codes_after : (a b d : FileEncoderState) (xs ys : List ℕ) → CodesAll a b xs → CodesAll b d ys → CodesAll a d (xs ++ ys)
 codes_after a b d xs ys f g p numbers h = rw (append_assoc numbers xs ys) at (g p (numbers ++ xs) (f p numbers h))
 
 -- a part of a list, from a place of it to another
 abbrev pub part : List ℕ → ℕ → ℕ → List ℕ
 part list first end = take (end - first) (drop first list)
 
-pub codes_part : (a b d : Ending) (list : List ℕ) (first count : ℕ) → CodesAll a b (take first list) → CodesAll b d (part list first (first + count))
+pub codes_part : (a b d : FileEncoderState) (list : List ℕ) (first count : ℕ) → CodesAll a b (take first list) → CodesAll b d (part list first (first + count))
     → CodesAll a d (take (first + count) list)
 codes_part a b d list first count f g =
     let e : first + count - first ≡ count = omega arith in
     rw take-add (codes_after a b d (take first list) (take count (drop first list)) f (rw e at g))
 
-pub may_part : (old e : Ending) (list : List ℕ) (first count : ℕ) → MayCodeAll old list → CodesAll old e (take first list) → first + count ≤ length list
+pub may_part : (old e : FileEncoderState) (list : List ℕ) (first count : ℕ) → MayCodeAll old list → CodesAll old e (take first list) → first + count ≤ length list
     → MayCodeAll e (part list first (first + count))
 may_part old e list first count may codes fits = record {
   params = may.params;
@@ -83,29 +83,29 @@ may_part old e list first count may codes fits = record {
 }
 
 -- where numbers are still to be coded, a place is to come
-pub place_waits : (old e : Ending) (list : List ℕ) (first : ℕ) → MayCodeAll old list → CodesAll old e (take first list) → first < length list
+pub place_waits : (old e : FileEncoderState) (list : List ℕ) (first : ℕ) → MayCodeAll old list → CodesAll old e (take first list) → first < length list
     → None ≡ slice_get e.left 0 → ⊥
 place_waits old e list first may codes lt none =
     comes_next may.params e (may.numbers ++ take first list) (codes may.params may.numbers may.coded)
     (rw (length-append, length-take) (omega (arith, may.more, lt))) none
 
 -- the residuals that may be coded are no more than the places after those that were
-pub fits_after : (old : Ending) (list : List ℕ) → MayCodeAll old list → (p : Params) (numbers : List ℕ) → HasCoded p old numbers
+pub fits_after : (old : FileEncoderState) (list : List ℕ) → MayCodeAll old list → (p : Params) (numbers : List ℕ) → HasCoded p old numbers
     → length numbers + length list ≤ length (places p.shape p.order)
 fits_after old list may p numbers h =
     omega (arith, length-left p old numbers h, length-left may.params old may.numbers may.coded, may.more, h.within, length-places p.shape p.order h.order)
 
 -- ---- by blocks
 
-by_blocks : (p : Params) (coder : Encoder) (numbers list : List ℕ) (bits : List Bool) → IsByBlocks coder → HasTaken p coder numbers bits
+by_blocks : (p : Params) (coder : EntropyEncoder) (numbers list : List ℕ) (bits : List Bool) → IsByBlocks coder → HasTaken p coder numbers bits
     → length numbers + length list ≤ sample_count p.shape → AllByRecursion (λ n. n < 2 ^ p.kind.bits) list → MayPutBlocks coder list
 by_blocks p (Samples v) numbers list bits blocks h more range = absurd blocks
 by_blocks p (Blocks v) numbers list bits blocks h more range = (omega (arith, h.count, more, h.room.room), rw (cut_bits p v.cut h.cut) range)
 
-pub may_put_blocks : (e : Ending) (list : List ℕ) → MayCodeAll e list → IsByBlocks e.coder → MayPutBlocks e.coder list
+pub may_put_blocks : (e : FileEncoderState) (list : List ℕ) → MayCodeAll e list → IsByBlocks e.coder → MayPutBlocks e.coder list
 may_put_blocks e list may blocks = by_blocks may.params e.coder may.numbers list may.coded.written blocks may.coded.taken may.more may.range
 
-pub coded_blocks : (old new : Ending) (list : List ℕ) (n : ℕ) → MayCodeAll old list → n ≤ length list → new.left ≡ drop n old.left → new.columns ≡ old.columns
+pub coded_blocks : (old new : FileEncoderState) (list : List ℕ) (n : ℕ) → MayCodeAll old list → n ≤ length list → new.left ≡ drop n old.left → new.columns ≡ old.columns
     → new.word ≡ old.word → PutsBlocks (take n list) old.coder old.bits new.coder new.bits → CodesAll old new (take n list)
 coded_blocks old new list n may le moved columns word puts p numbers h =
     let long : length (take n list) ≡ n = omega (arith, le, length-take n list) in
@@ -116,23 +116,23 @@ coded_blocks old new list n may le moved columns word puts p numbers h =
 -- ---- row by row
 
 -- what takes numbers by samples goes on to do so
-stays : (p : Params) (a b : Encoder) (ns ms : List ℕ) (bits more : List Bool) → HasTaken p a ns bits → HasTaken p b ms more → IsBySamples a → IsBySamples b
+stays : (p : Params) (a b : EntropyEncoder) (ns ms : List ℕ) (bits more : List Bool) → HasTaken p a ns bits → HasTaken p b ms more → IsBySamples a → IsBySamples b
 stays p a (Samples w) ns ms bits more h k s = tt
 stays p (Samples v) (Blocks w) ns ms bits more h k s =
     absurd (elim p.coder as (λ c. IsSample c → IsBlock c → ⊥) [ Sample umax star first start ↦ λ a b. b | Block size restricted reference ↦ λ a b. a ]
     h.coder k.coder)
 stays p (Blocks v) (Blocks w) ns ms bits more h k s = absurd s
 
-pub samples_still : (old e : Ending) (list xs : List ℕ) → MayCodeAll old list → IsBySamples old.coder → CodesAll old e xs → IsBySamples e.coder
+pub samples_still : (old e : FileEncoderState) (list xs : List ℕ) → MayCodeAll old list → IsBySamples old.coder → CodesAll old e xs → IsBySamples e.coder
 samples_still old e list xs may samples codes =
     stays may.params old.coder e.coder _ _ _ _ may.coded.taken (codes may.params may.numbers may.coded).taken samples
 
-by_samples : (p : Params) (coder : Encoder) (numbers run : List ℕ) (bits : List Bool) (z t : ℕ) → IsBySamples coder → HasTaken p coder numbers bits
+by_samples : (p : Params) (coder : EntropyEncoder) (numbers run : List ℕ) (bits : List Bool) (z t : ℕ) → IsBySamples coder → HasTaken p coder numbers bits
     → z < p.shape.bands → AllByRecursion (λ n. n < 2 ^ p.kind.bits) run → (length run ≤ 2 ^ 16) × (t < 2 ^ 48) → MayPutRun coder z t run
 by_samples p (Samples v) numbers run bits z t s h band range few = (omega (arith, h.bands, band), rw h.depth range, few.0, few.1)
 by_samples p (Blocks v) numbers run bits z t s h band range few = absurd s
 
-pub may_put_run : (e : Ending) (place : Place) (t : ℕ) (run : List ℕ) → MayCodeRun e place run → t ≡ place.y * e.columns + place.x
+pub may_put_run : (e : FileEncoderState) (place : Place) (t : ℕ) (run : List ℕ) → MayCodeRun e place run → t ≡ place.y * e.columns + place.x
     → MayPutRun e.coder place.z t run
 may_put_run e place t run h time =
     let may = h.may in
@@ -144,7 +144,7 @@ may_put_run e place t run h time =
     (omega (arith, h.row, columns), omega (arith, time, rows, there.column, may.coded.columns, columns))
 
 -- the residuals of a run were put
-pub coded_run : (old new : Ending) (place : Place) (t : ℕ) (run : List ℕ) → MayCodeRun old place run → new.left ≡ drop (length run) old.left
+pub coded_run : (old new : FileEncoderState) (place : Place) (t : ℕ) (run : List ℕ) → MayCodeRun old place run → new.left ≡ drop (length run) old.left
     → t ≡ place.y * old.columns + place.x → new.columns ≡ old.columns → new.word ≡ old.word → PutsRun place.z t run old.coder old.bits new.coder new.bits
     → CodesAll old new run
 coded_run old new place t run may moved time columns word puts p numbers h =

@@ -12,8 +12,8 @@ use Rattle.sample_adaptive.specs.Taken.{CoderState, HasTaken as HaveTaken}
 use Rattle.block_adaptive.specs.Settings.{IsBlock, IsCutOf, cut_by}
 use Rattle.block_adaptive.specs.Taken.{WriterState, EndsBlock, EndsInside, taken_count, HasTaken as HasPacked}
 use Rattle.block_adaptive.specs.DataSets.{capacity}
-use Rattle.file_encoding.specs.declared.encoder.Encoder.{Encoder}
-use Rattle.file_encoding.specs.declared.encoder.Encoder.TheVariants.{Samples, Blocks}
+use Rattle.file_encoding.specs.declared.encoder.EntropyEncoder.{EntropyEncoder}
+use Rattle.file_encoding.specs.declared.encoder.EntropyEncoder.TheVariants.{Samples, Blocks}
 use Rattle.file_format.specs.File.{body_of}
 
 -- those of the numbers that are of band z
@@ -37,33 +37,33 @@ pub record BlocksTaken (p : Params) (v : WriterState) (numbers : List ℕ) (bits
   pub count : taken_count v ≡ length numbers
 
 -- the coding end of parameters has taken the numbers, and appended the bits
-abbrev pub HasTaken : Params → Encoder → List ℕ → List Bool → Type 0
+abbrev pub HasTaken : Params → EntropyEncoder → List ℕ → List Bool → Type 0
 HasTaken p (Samples v) numbers bits = SamplesTaken p v numbers bits
 HasTaken p (Blocks v) numbers bits = BlocksTaken p v numbers bits
 
 -- a number of band z may be put
-abbrev pub MayPut : Encoder → ℕ → ℕ → Type 0
+abbrev pub MayPut : EntropyEncoder → ℕ → ℕ → Type 0
 MayPut (Samples v) z number = (z < length v.bands) × (number < 2 ^ v.bits)
 MayPut (Blocks v) z number = (taken_count v < capacity v.cut) × (number < 2 ^ v.cut.set.bits)
 
 -- a number may ask for memory: among blocks, only where it ends one
-abbrev pub MayGrow : Encoder → Type 0
+abbrev pub MayGrow : EntropyEncoder → Type 0
 MayGrow (Samples v) = Unit {0}
 MayGrow (Blocks v) = EndsBlock v
 
 -- so may the end of a body of blocks, where the numbers end inside one
-abbrev pub MayGrowAtEnd : Encoder → Type 0
+abbrev pub MayGrowAtEnd : EntropyEncoder → Type 0
 MayGrowAtEnd (Samples v) = ⊥
 MayGrowAtEnd (Blocks v) = EndsInside v
 
 -- whatever numbers were taken before: bits were appended, and with them one number more is taken
-abbrev pub PutsResidual : ℕ → ℕ → ℕ → Encoder → List Bool → Encoder → List Bool → Type 0
+abbrev pub PutsResidual : ℕ → ℕ → ℕ → EntropyEncoder → List Bool → EntropyEncoder → List Bool → Type 0
 PutsResidual z t number old written new written_now =
     (p : Params) (numbers : List ℕ) (bits : List Bool) → HasTaken p old numbers bits → IsNext p numbers z t
     → (more : List Bool) × (written_now ≡ written ++ more) × HasTaken p new (numbers ++ number ∷ []) (bits ++ more)
 
 -- numbers of band z from number t on may be put as one run: the coder is the sample-adaptive one
-abbrev pub MayPutRun : Encoder → ℕ → ℕ → List ℕ → Type 0
+abbrev pub MayPutRun : EntropyEncoder → ℕ → ℕ → List ℕ → Type 0
 MayPutRun (Samples v) z t run = (z < length v.bands) × AllByRecursion (λ n. n < 2 ^ v.bits) run × (length run ≤ 2 ^ 16) × (t < 2 ^ 48)
 MayPutRun (Blocks v) z t run = ⊥
 
@@ -78,46 +78,46 @@ pub record IsRun (p : Params) (numbers : List ℕ) (z t count : ℕ) : Type 0 wh
   pub time : t ≡ length (of_band p numbers z)
 
 -- whatever numbers were taken before: bits were appended, and with them the numbers of a run are taken
-abbrev pub PutsRun : ℕ → ℕ → List ℕ → Encoder → List Bool → Encoder → List Bool → Type 0
+abbrev pub PutsRun : ℕ → ℕ → List ℕ → EntropyEncoder → List Bool → EntropyEncoder → List Bool → Type 0
 PutsRun z t run old written new written_now =
     (p : Params) (numbers : List ℕ) (bits : List Bool) → HasTaken p old numbers bits → IsRun p numbers z t (length run)
     → (more : List Bool) × (written_now ≡ written ++ more) × HasTaken p new (numbers ++ run) (bits ++ more)
 
 -- numbers of bands from band z on may be put as one column: the coder is the sample-adaptive one
-abbrev pub MayPutColumn : Encoder → ℕ → List ℕ → Type 0
+abbrev pub MayPutColumn : EntropyEncoder → ℕ → List ℕ → Type 0
 MayPutColumn (Samples v) z column = (z + length column ≤ length v.bands) × AllByRecursion (λ n. n < 2 ^ v.bits) column × (length column ≤ 2 ^ 16)
 MayPutColumn (Blocks v) z column = ⊥
 
 -- one number each of bands from band z on: each is taken in turn, as number t of its band
-abbrev pub PutsColumn : ℕ → ℕ → List ℕ → Encoder → List Bool → Encoder → List Bool → Type 0
+abbrev pub PutsColumn : ℕ → ℕ → List ℕ → EntropyEncoder → List Bool → EntropyEncoder → List Bool → Type 0
 PutsColumn z t [] old written new written_now = (new ≡ old) × (written_now ≡ written)
 PutsColumn z t (number ∷ numbers) old written new written_now =
-    (mid : Encoder) × (written_mid : List Bool) × PutsResidual z t number old written mid written_mid
+    (mid : EntropyEncoder) × (written_mid : List Bool) × PutsResidual z t number old written mid written_mid
     × PutsColumn (suc z) t numbers mid written_mid new written_now
 
 -- numbers may be put as they come: the coder is the block-adaptive one, and has blocks for them
-abbrev pub MayPutBlocks : Encoder → List ℕ → Type 0
+abbrev pub MayPutBlocks : EntropyEncoder → List ℕ → Type 0
 MayPutBlocks (Samples v) list = ⊥
 MayPutBlocks (Blocks v) list = (taken_count v + length list ≤ capacity v.cut) × AllByRecursion (λ n. n < 2 ^ v.cut.set.bits) list
 
 -- whatever numbers were taken before: bits were appended, and with them the next ones are taken
-abbrev pub PutsBlocks : List ℕ → Encoder → List Bool → Encoder → List Bool → Type 0
+abbrev pub PutsBlocks : List ℕ → EntropyEncoder → List Bool → EntropyEncoder → List Bool → Type 0
 PutsBlocks list old written new written_now =
     (p : Params) (numbers : List ℕ) (bits : List Bool) → HasTaken p old numbers bits
     → (more : List Bool) × (written_now ≡ written ++ more) × HasTaken p new (numbers ++ list) (bits ++ more)
 
 -- the coder is the sample-adaptive one
-abbrev pub IsBySamples : Encoder → Type 0
+abbrev pub IsBySamples : EntropyEncoder → Type 0
 IsBySamples (Samples v) = Unit {0}
 IsBySamples (Blocks v) = ⊥
 
 -- the coder is the block-adaptive one
-abbrev pub IsByBlocks : Encoder → Type 0
+abbrev pub IsByBlocks : EntropyEncoder → Type 0
 IsByBlocks (Samples v) = ⊥
 IsByBlocks (Blocks v) = Unit {0}
 
 -- where a number was taken for each sample: all bits together are the body
-abbrev pub EndsBody : Encoder → List Bool → List Bool → Type 0
+abbrev pub EndsBody : EntropyEncoder → List Bool → List Bool → Type 0
 EndsBody old written written_now =
     (p : Params) (numbers : List ℕ) (bits : List Bool) → HasTaken p old numbers bits → IsOrder p.shape p.order → length numbers ≡ sample_count p.shape
     → (more : List Bool) × (written_now ≡ written ++ more) × (bits ++ more ≡ body_of p numbers)

@@ -1,7 +1,7 @@
 -- The coding end takes a list of residuals.
 use Rattle.std.specs.Prelude.{ℕ, Bool, List, IsTrue}
-use Rattle.file_encoding.specs.Ends.{Ending, CodesAll}
+use Rattle.file_encoding.specs.Ends.{FileEncoderState, CodesAll}
 
 -- it has coded the whole list, or memory ran out
-abbrev pub Takes : Ending → Ending → Bool → List ℕ → Type 0
+abbrev pub Takes : FileEncoderState → FileEncoderState → Bool → List ℕ → Type 0
 Takes old new all list = IsTrue all → CodesAll old new list

@@ -8,19 +8,19 @@ use Rattle.cube_core.specs.Order.{IsOrder, places}
 use Rattle.header_bits.specs.declared.params.Params.{Params}
 use Rattle.header_bits.specs.Header.{header_of}
 use Rattle.header_bits.specs.Lawful.{IsLawful}
-use Rattle.file_encoding.specs.declared.encoder.Encoder.{Encoder}
+use Rattle.file_encoding.specs.declared.encoder.EntropyEncoder.{EntropyEncoder}
 use Rattle.file_encoding.specs.Coding.{HasTaken, IsBySamples}
 
 -- the width of a row, the bytes of an output word, the places that are still to come, the entropy coder, and the bits so far
-pub record Ending : Type 0 where
+pub record FileEncoderState : Type 0 where
   pub columns : ℕ
   pub word : ℕ
   pub left : List Place
-  pub coder : Encoder
+  pub coder : EntropyEncoder
   pub bits : List Bool
 
 -- the coding end of parameters has taken the numbers: the places after them are still to come, and what the coder wrote comes after the header
-pub record HasCoded (p : Params) (e : Ending) (numbers : List ℕ) : Type 0 where
+pub record HasCoded (p : Params) (e : FileEncoderState) (numbers : List ℕ) : Type 0 where
   pub columns : e.columns ≡ p.shape.columns
   pub word : e.word ≡ p.word
   pub order : IsOrder p.shape p.order
@@ -31,7 +31,7 @@ pub record HasCoded (p : Params) (e : Ending) (numbers : List ℕ) : Type 0 wher
   pub text : e.bits ≡ header_of p ++ written
 
 -- the coding end of some parameters has taken fewer numbers than there are samples, and this one is in range
-pub record MayCode (e : Ending) (number : ℕ) : Type 0 where
+pub record MayCode (e : FileEncoderState) (number : ℕ) : Type 0 where
   pub params : Params
   pub numbers : List ℕ
   pub lawful : IsLawful params
@@ -40,7 +40,7 @@ pub record MayCode (e : Ending) (number : ℕ) : Type 0 where
   pub range : number < 2 ^ params.kind.bits
 
 -- the coding end of some parameters has taken numbers, these are no more than the samples after them, and in range
-pub record MayCodeAll (e : Ending) (list : List ℕ) : Type 0 where
+pub record MayCodeAll (e : FileEncoderState) (list : List ℕ) : Type 0 where
   pub params : Params
   pub numbers : List ℕ
   pub lawful : IsLawful params
@@ -49,7 +49,7 @@ pub record MayCodeAll (e : Ending) (list : List ℕ) : Type 0 where
   pub range : AllByRecursion (λ n. n < 2 ^ params.kind.bits) list
 
 -- whatever numbers it had taken, it has taken these after them
-abbrev pub CodesAll : Ending → Ending → List ℕ → Type 0
+abbrev pub CodesAll : FileEncoderState → FileEncoderState → List ℕ → Type 0
 CodesAll old new list = (p : Params) (numbers : List ℕ) → HasCoded p old numbers → HasCoded p new (numbers ++ list)
 
 -- the first places, so many, are of one row and column, from the band of a place on
@@ -57,7 +57,7 @@ abbrev pub AreOfColumn : Place → ℕ → List Place → Type 0
 AreOfColumn place count ps = (i : ℕ) → i < count → slice_get ps i ≡ Some (record { z = place.z + i; y = place.y; x = place.x })
 
 -- these numbers may be coded, and they are of one row, from the place that comes next
-pub record MayCodeRun (e : Ending) (place : Place) (run : List ℕ) : Type 0 where
+pub record MayCodeRun (e : FileEncoderState) (place : Place) (run : List ℕ) : Type 0 where
   pub may : MayCodeAll e run
   pub samples : IsBySamples e.coder
   pub rows : AreByRows e.columns e.left
@@ -65,7 +65,7 @@ pub record MayCodeRun (e : Ending) (place : Place) (run : List ℕ) : Type 0 whe
   pub row : place.x + length run ≤ e.columns
 
 -- these numbers may be coded, and they are of one row and column, from the place that comes next
-pub record MayCodeColumn (e : Ending) (place : Place) (column : List ℕ) : Type 0 where
+pub record MayCodeColumn (e : FileEncoderState) (place : Place) (column : List ℕ) : Type 0 where
   pub may : MayCodeAll e column
   pub samples : IsBySamples e.coder
   pub next : slice_get e.left 0 ≡ Some place

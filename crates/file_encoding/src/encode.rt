@@ -5,7 +5,7 @@ ghost use Rattle.cube_core.specs.declared.fault.Fault.TheVariants.{WantOfMemory}
 ghost use Rattle.header_bits.specs.Lawful.{IsLawful};
 ghost use Rattle.file_format.specs.File.{file_of};
 
-use crate::coding_end::CodingEnd;
+use crate::file_encoder::FileEncoder;
 use crate::walk::send_own;
 use cube_core::cube::Cube;
 use cube_core::fault::Fault;
@@ -25,7 +25,7 @@ pub fn encode_one(alloc: Global, cube: &Cube, params: &Params) -> Result<Vec<u8>
 {
     cube.prove_is_cube();
     let mut bands = all_bands(alloc, params)?;
-    let mut end = CodingEnd::new(alloc, params)?;
+    let mut end = FileEncoder::new(alloc, params)?;
     if !send_own(cube, params, 0, &[], &mut bands, &mut end) {
         return Err(Fault::WantOfMemory);
     }

@@ -16,26 +16,26 @@ use std::alloc::Global;
 
 /// The entropy coder that an image's parameters name, as it writes.
 #[derive(Drop)]
-pub enum Encoder {
+pub enum EntropyEncoder {
     Samples(Stats),
     Blocks(BlockWriter),
 }
 
-impl Encoder {
+impl EntropyEncoder {
     /// Returns the coder of an image, which has taken no residual.
     ///
     /// Returns `WantOfMemory` if the statistics of all bands can't be allocated; the block-adaptive coder allocates
     /// nothing.
     #[tactic(auto, using(sample_adaptive::proofs::ForSamples::for_samples, crate::proofs::Coders::samples_none))]
-    pub fn new(alloc: Global, params: &Params) -> Result<Encoder, Fault>
+    pub fn new(alloc: Global, params: &Params) -> Result<EntropyEncoder, Fault>
         requires { IsLawful params.now }
         ensures taken { IfOk result (λ coder. HasTaken params.now coder [] []) }
         ensures refused { IfErr result (λ e. e ≡ WantOfMemory) }
         ensures blocks { IsBlock params.now.coder → IsOk result }
     {
         match params.coder {
-            Coder::Sample { .. } => Ok(Encoder::Samples(Stats::new(alloc, params)?)),
-            Coder::Block { .. } => Ok(Encoder::Blocks(BlockWriter::new(params))),
+            Coder::Sample { .. } => Ok(EntropyEncoder::Samples(Stats::new(alloc, params)?)),
+            Coder::Block { .. } => Ok(EntropyEncoder::Blocks(BlockWriter::new(params))),
         }
     }
 
@@ -53,8 +53,8 @@ impl Encoder {
         ensures memory { IfErr result (λ _. MayGrow self.old) }
     {
         match self {
-            Encoder::Samples(stats) => stats.put(z, t, delta, writer),
-            Encoder::Blocks(blocks) => blocks.put(delta, writer),
+            EntropyEncoder::Samples(stats) => stats.put(z, t, delta, writer),
+            EntropyEncoder::Blocks(blocks) => blocks.put(delta, writer),
         }
     }
 
@@ -64,8 +64,8 @@ impl Encoder {
         ensures blocks { IsFalse result → IsByBlocks self.now }
     {
         match self {
-            Encoder::Samples(_) => true,
-            Encoder::Blocks(_) => false,
+            EntropyEncoder::Samples(_) => true,
+            EntropyEncoder::Blocks(_) => false,
         }
     }
 
@@ -89,8 +89,8 @@ impl Encoder {
         ensures refused { IfErr result (λ e. e ≡ WantOfMemory) }
     {
         match self {
-            Encoder::Samples(stats) => stats.put_run(z, t, run, writer),
-            Encoder::Blocks(_) => unreachable!(),
+            EntropyEncoder::Samples(stats) => stats.put_run(z, t, run, writer),
+            EntropyEncoder::Blocks(_) => unreachable!(),
         }
     }
 
@@ -114,8 +114,8 @@ impl Encoder {
         ensures refused { IfErr result (λ e. e ≡ WantOfMemory) }
     {
         match self {
-            Encoder::Samples(stats) => stats.put_column(z, t, column, writer),
-            Encoder::Blocks(_) => unreachable!(),
+            EntropyEncoder::Samples(stats) => stats.put_column(z, t, column, writer),
+            EntropyEncoder::Blocks(_) => unreachable!(),
         }
     }
 
@@ -132,8 +132,8 @@ impl Encoder {
         ensures memory { result < length residuals.now → MayGrow self.new }
     {
         match self {
-            Encoder::Samples(_) => unreachable!(),
-            Encoder::Blocks(blocks) => blocks.put_all(residuals, writer),
+            EntropyEncoder::Samples(_) => unreachable!(),
+            EntropyEncoder::Blocks(blocks) => blocks.put_all(residuals, writer),
         }
     }
 
@@ -148,8 +148,8 @@ impl Encoder {
         ensures memory { IfErr result (λ _. MayGrowAtEnd self.old) }
     {
         match self {
-            Encoder::Samples(_) => Ok(()),
-            Encoder::Blocks(blocks) => blocks.end(writer),
+            EntropyEncoder::Samples(_) => Ok(()),
+            EntropyEncoder::Blocks(blocks) => blocks.end(writer),
         }
     }
 }

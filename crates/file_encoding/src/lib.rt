@@ -1,7 +1,7 @@
 //! The writing end of an image: from its cube to the bytes of its file, on one thread.
 #![tactic(auto)]
 
-pub mod coding_end;
+pub mod file_encoder;
 mod each_row;
 pub mod encode;
 pub mod encoder;

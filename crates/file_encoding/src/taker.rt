@@ -6,7 +6,7 @@ ghost use Rattle.file_encoding.specs.Ends.{MayCodeAll};
 ghost use Rattle.file_encoding.specs.Takings.{AreTakings};
 ghost use Rattle.file_encoding.proofs.CodingTakings.{codings_are};
 
-use crate::coding_end::CodingEnd;
+use crate::file_encoder::FileEncoder;
 
 /// Takes residuals until it stops.
 pub trait Taker {
@@ -26,7 +26,7 @@ pub trait Taker {
 }
 
 /// It stops where memory runs out.
-impl Taker for CodingEnd {
+impl Taker for FileEncoder {
     ghost may = { λ e list. MayCodeAll e list };
 
     ghost takes = { λ old new all list. Takes old new all list };

@@ -33,7 +33,7 @@ use Rattle.block_adaptive.proofs.Exact as blocks
 use Rattle.block_adaptive.proofs.Handed.{size_least}
 use Rattle.block_adaptive.proofs.Segmented.{no_shorter_body}
 use Rattle.file_format.specs.Files.{IsBodyBy, IsBody, IsFile, after_by, after_body, some_one, fill_test, body_test, head_at, file_test}
-use Rattle.file_format.specs.Least.{least_by, least_length, least_test}
+use Rattle.file_format.specs.MinimumLength.{minimum_length_by, minimum_length, minimum_length_test}
 use Rattle.file_format.specs.Laws.{FileIsFine, OneFile}
 
 -- ---- what bodies are, by either coder
@@ -52,7 +52,7 @@ numbers_at (Block size restricted reference) count p =
 pub record AreBodies (p : Params) (coder : Coder) : Type 0 where
   pub exact : (count : ℕ) → IsExact (numbers_at coder count p) (IsBodyOf p coder)
   pub left_over : (count : ℕ) (bits : List Bool) → after_by coder count p bits ≡ (numbers_at coder count p bits >>= λ read. Ok read.1)
-  pub least : (numbers : List ℕ) (body : List Bool) → IsBodyOf p coder numbers body → least_by coder (sample_count p.shape) ≤ length body
+  pub least : (numbers : List ℕ) (body : List Bool) → IsBodyOf p coder numbers body → minimum_length_by coder (sample_count p.shape) ≤ length body
 
 bodies : (p : Params) (coder : Coder) → IsLawful p → IsCoder p coder → AreBodies p coder
 bodies p (Sample umax gamma_star gamma_zero start) lawful h =
@@ -138,7 +138,7 @@ module _ (bytes : List ℕ) (p : Params) (c : Image) (lawful : IsLawful p) (f : 
   body_of_file : IsBodyOf p p.coder (residuals p c) f.body
   body_of_file = body_of_cube p lawful c f.body f.cube f.coded
 
-  pub body_long : least_length p ≤ length f.body
+  pub body_long : minimum_length p ≤ length f.body
   body_long = (are_bodies p lawful).least _ _ body_of_file
 
 pub file_is_fine : FileIsFine
@@ -148,8 +148,8 @@ file_is_fine bytes p c lawful f =
     let count : ℕ = length (f.header ++ later) in
     let header = header_exact.again p f.header later f.spelt in
     let body = after_again p lawful count _ f.body (replicate f.fill false) (body_of_file bytes p c lawful f) in
-    let enough : least_test count p later ≡ fine =
-    rw (le-ltb (length later) (least_length p) (omega (arith, body_long bytes p c lawful f, length-append {A = Bool}))) refl in
+    let enough : minimum_length_test count p later ≡ fine =
+    rw (le-ltb (length later) (minimum_length p) (omega (arith, body_long bytes p c lawful f, length-append {A = Bool}))) refl in
     rw (file_text bytes p c lawful f, header, enough, body) (zeros_pass p.word f.fill f.few)
 
 pub one_file : OneFile

@@ -9,7 +9,7 @@ use Rattle.header_bits.proofs.Fronts.{bind_ok}
 use Rattle.header_bits.proofs.HeaderTexts.{read_lawful}
 use Rattle.header_bits.proofs.Reading.{ok_is}
 use Rattle.file_format.specs.Files.{after_body, fill_test, body_test, head_at, file_test}
-use Rattle.file_format.specs.Least.{least_test}
+use Rattle.file_format.specs.MinimumLength.{minimum_length_test}
 use Rattle.file_format.specs.Laws.{FineIsFile}
 use Rattle.file_format.proofs.FileLaws.{numbers_at, are_bodies, whole_file}
 use Rattle.file_format.proofs.Built.{built}
@@ -21,7 +21,7 @@ passes_on false fault x y e = ok_is x y e
 head_read : (bits : List Bool) (x : Params × List Bool) → head_at bits ≡ Ok x → header_at bits ≡ Ok x
 unfolding head_at
 head_read bits x e =
-    let a = bind_ok (header_at bits) (λ header. least_test (length bits) header.0 header.1 >> Ok header) x e in
+    let a = bind_ok (header_at bits) (λ header. minimum_length_test (length bits) header.0 header.1 >> Ok header) x e in
     a.1 ∙ ap (λ (y : Params × List Bool). Ok y) (passes_on _ _ a.0 x a.2)
 
 pub fine_is_file : FineIsFile

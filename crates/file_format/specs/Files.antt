@@ -19,7 +19,7 @@ use Rattle.sample_adaptive.specs.Body.{sample_body}
 use Rattle.sample_adaptive.specs.Reading.{sample_body_at}
 use Rattle.block_adaptive.specs.DataSets.{IsBlockBody}
 use Rattle.block_adaptive.specs.Reading.{block_body_at}
-use Rattle.file_format.specs.Least.{least_test}
+use Rattle.file_format.specs.MinimumLength.{minimum_length_test}
 
 -- the bits are the residuals' code words; or lawful data sets of their blocks
 abbrev pub IsBodyBy : Coder → Params → List ℕ → List Bool → Type 0
@@ -66,7 +66,7 @@ body_test count p bits = after_body count p bits >>= λ rest. fill_test p.word r
 
 -- a header after which there are as many bits as every body has: its parameters and these bits, or the first refusal
 unfoldable pub head_at : Reading Params
-head_at bits = header_at bits >>= λ header. least_test (length bits) header.0 header.1 >> Ok header
+head_at bits = header_at bits >>= λ header. minimum_length_test (length bits) header.0 header.1 >> Ok header
 
 -- a file is refused for the first fault of its header, for too few bits after it, and for the first fault of its body and of its fill
 unfoldable pub file_test : List Bool → Test

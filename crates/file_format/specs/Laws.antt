@@ -8,7 +8,7 @@ use Rattle.header_bits.specs.Lawful.{IsLawful}
 use Rattle.predict_core.specs.Cubes.{IsCubeOf}
 use Rattle.file_format.specs.File.{file_of}
 use Rattle.file_format.specs.Files.{IsFile, file_test}
-use Rattle.file_format.specs.Least.{least_length}
+use Rattle.file_format.specs.MinimumLength.{minimum_length}
 
 -- the file that is written of a cube is a file of it
 abbrev pub ChosenIsFile : Type 0
@@ -26,7 +26,7 @@ FineIsFile = (bytes : List ℕ) → file_test (bits_of_bytes bytes) ≡ fine →
 abbrev pub NoShorterFile : Type 0
 NoShorterFile =
     (bytes : List ℕ) (p : Params) (c : Image) → IsLawful p → (f : IsFile bytes p c)
-    → length f.header + least_length p ≤ 8 * length bytes
+    → length f.header + minimum_length p ≤ 8 * length bytes
 
 -- no bytes are a file of two pairs of parameters and cube
 abbrev pub OneFile : Type 0

@@ -1,4 +1,4 @@
 pub mod File
 pub mod Files
 pub mod Laws
-pub mod Least
+pub mod MinimumLength

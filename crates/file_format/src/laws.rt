@@ -20,7 +20,7 @@ pub fn fine_is_file()
     ensures { FineIsFile }
 {}
 
-/// No file is shorter than its header and `least_length` of its parameters.
+/// No file is shorter than its header and `minimum_length` of its parameters.
 pub fn no_shorter_file()
     ensures { NoShorterFile }
 {}

@@ -3,7 +3,7 @@ use Rattle.std.proofs.Common.{◌≡◌, ◌<◌, ℕ, zero, suc, List, [], ◌�
 use Rattle.cube_core.specs.declared.order.Order.TheVariants.{Bi}
 use Rattle.cube_core.specs.Order.{places}
 use Rattle.coder_pipe.specs.Piping.{AreFeeds}
-use Rattle.coder_pipe.specs.Plans.{Dealing}
+use Rattle.coder_pipe.specs.Plans.{PlanState}
 use Rattle.coder_pipe.specs.Weave.{owners_of, share}
 
 abbrev pub zeros : List ℕ
@@ -36,7 +36,7 @@ module _ {F : Type 0} where
   items_at items f g h (suc zero) lt first second = second
   items_at items f g h (suc (suc q)) lt first second = absurd (omega arith)
 
-  pub are_feeds : (predictor : F → ℕ) (items : F → List ℕ) (plan : Dealing) (f g : F)
+  pub are_feeds : (predictor : F → ℕ) (items : F → List ℕ) (plan : PlanState) (f g : F)
       → plan.predictors ≡ 2 → plan.deal ≡ 0 ∷ 1 ∷ [] → plan.params.shape ≡ record { columns = 3; rows = 2; bands = 2 } → plan.params.kind.bits ≡ 8
       → plan.params.order ≡ Bi 2
       → predictor f ≡ 0 → predictor g ≡ 1 → items f ≡ zeros → items g ≡ zeros → AreFeeds predictor items plan (f ∷ g ∷ [])

@@ -1,7 +1,7 @@
 //! Tests of plans, of predictors, and of the files that they make.
 
 mod checks;
-mod coding_end;
+mod file_encoder;
 mod cube_a;
 mod gates;
 mod parallel;

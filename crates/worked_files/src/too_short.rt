@@ -7,7 +7,7 @@ ghost use Rattle.cube_core.specs.Examples.{sizes};
 ghost use Rattle.header_bits.specs.Bits.{bits_of};
 ghost use Rattle.header_bits.specs.Parts.{fine};
 ghost use Rattle.header_bits.specs.Examples.{block, with_sample_coder};
-ghost use Rattle.file_format.specs.Least.{least_test};
+ghost use Rattle.file_format.specs.MinimumLength.{minimum_length_test};
 ghost use Rattle.worked_files.specs.Examples.{bytes, test, tests_of_cuts};
 
 /// 32 bits for 33 samples, though they contain a bad code word.
@@ -17,7 +17,7 @@ pub fn fewer_bits_than_samples()
 
 /// As many bits as samples are not too few.
 pub fn as_many_bits_as_samples()
-    ensures { least_test 184 (record (with_sample_coder 8 6 1 0) { shape = sizes 1 32 1 }) (bits_of 32 0x90000300) ≡ fine }
+    ensures { minimum_length_test 184 (record (with_sample_coder 8 6 1 0) { shape = sizes 1 32 1 }) (bits_of 32 0x90000300) ≡ fine }
 {}
 
 /// The greatest sizes, and nothing after the header.
@@ -28,8 +28,8 @@ pub fn nothing_after_the_header()
 
 /// Three bits for each segment, and one bit fewer: 130 blocks in one reference interval are three segments.
 pub fn three_bits_for_each_segment()
-    ensures enough { least_test 161 (block 1 1040 1 false 4096) (bits_of 9 0) ≡ fine }
-    ensures too_few { least_test 160 (block 1 1040 1 false 4096) (bits_of 8 0) ≡ Err (Truncated 160) }
+    ensures enough { minimum_length_test 161 (block 1 1040 1 false 4096) (bits_of 9 0) ≡ fine }
+    ensures too_few { minimum_length_test 160 (block 1 1040 1 false 4096) (bits_of 8 0) ≡ Err (Truncated 160) }
 {}
 
 /// Two equal samples' file, cut off before each of its bytes.

@@ -1,6 +1,6 @@
 //! Tests that predictors run in parallel: at some gates, one predictor waits for what another does.
 
-use super::coding_end::feeds_make_it;
+use super::file_encoder::feeds_make_it;
 use super::cube_a::{BY_PIXEL, compressed};
 use super::gates::{FirstWaits, Meeting};
 use super::predicted_files::two_make_it;

@@ -1,7 +1,7 @@
 use Rattle.std.proofs.Common.{◌≡◌, ℕ, sym, subst}
 use Rattle.std.proofs.lemmas.Result.{IfOk-weaker, IfErr-weaker}
 use Rattle.predict_core.specs.Cubes.{IsCubeOf}
-use Rattle.coder_pipe.specs.Sends.{Predicting, part_of}
+use Rattle.coder_pipe.specs.Sends.{CubeFeedState, part_of}
 use Rattle.coder_pipe.specs.Piping.{AreFeeds, MayStop, MayStopPart}
 use Rattle.coder_pipe.proofs.Pipelines.{early}
 use Rattle.coder_pipe.proofs.Predicted.{feeds_from, are_feeds, is_file_of, may_stop_part}
@@ -16,9 +16,9 @@ module _ (g : Over) (c : After-params g) where
   feeds_are : c.in_ok-feeds.feeds.items ≡ feeds_from c.args.cube.now c.args.plan.now
   feeds_are = c.in_ok-feeds.ensures.feeds
 
-  lists : AreFeeds (λ (f : Predicting). f.predictor) part_of c.args.plan.now c.in_ok-feeds.feeds.items
+  lists : AreFeeds (λ (f : CubeFeedState). f.predictor) part_of c.args.plan.now c.in_ok-feeds.feeds.items
   lists =
-      subst (AreFeeds (λ (f : Predicting). f.predictor) part_of c.args.plan.now) (sym feeds_are)
+      subst (AreFeeds (λ (f : CubeFeedState). f.predictor) part_of c.args.plan.now) (sym feeds_are)
       (are_feeds c.args.plan.now c.args.cube.now c.prove_is_plan.ensures cube_of)
 
 pub encode_piped-requires-clause-feeds : goal.encode_piped-requires-clause-feeds

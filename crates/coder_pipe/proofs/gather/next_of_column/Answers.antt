@@ -29,8 +29,8 @@ module _ (g : Over) (c : After-from-owner g) where
   handed_within : c.from-owner.result < length (handed_of c.loop-i.stages.items)
   handed_within = rw length-map (omega (arith, below, c.loop-i.stages.ok.0, c.loop-i.invariant.many, c.requires.many))
 
-pub bounds-overs-q : goal.bounds-overs-q
-bounds-overs-q g c = omega (arith, below g (goal.at.bounds-overs-q g c).After-from-owner, c.requires.many, c.requires.overs)
+pub bounds-done_flags-q : goal.bounds-done_flags-q
+bounds-done_flags-q g c = omega (arith, below g (goal.at.bounds-done_flags-q g c).After-from-owner, c.requires.many, c.requires.done_flags)
 
 pub next_one_of-requires-clause-place : goal.next_one_of-requires-clause-place
 next_one_of-requires-clause-place g c =

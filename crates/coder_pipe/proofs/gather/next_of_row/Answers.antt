@@ -25,8 +25,8 @@ module _ (g : Over) (c : In-Some g) where
   handed_within : c.in-Some.owner < length (handed_of c.args.stages.now.items)
   handed_within = rw length-map (omega (arith, below, c.args.stages.now.ok.0, c.requires.many))
 
-pub bounds-overs-q : goal.bounds-overs-q
-bounds-overs-q g c = omega (arith, below g (goal.at.bounds-overs-q g c).In-Some, c.requires.many, c.requires.overs)
+pub bounds-done_flags-q : goal.bounds-done_flags-q
+bounds-done_flags-q g c = omega (arith, below g (goal.at.bounds-done_flags-q g c).In-Some, c.requires.many, c.requires.done_flags)
 
 pub next_of-requires-clause-place : goal.next_of-requires-clause-place
 next_of-requires-clause-place g c = omega (arith, below g (goal.at.next_of-requires-clause-place g c).In-Some, c.requires.many)

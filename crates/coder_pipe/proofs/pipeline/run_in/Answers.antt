@@ -16,6 +16,6 @@ returns-clause-early g c =
     let stops = λ (q n : ℕ) (at : MayStopAt g.G.Gate.may_stop g.F.Feed.items (feeds_of ss) (gates_of ss) q n).
     one_gate g.G.Gate.may_stop _ g.F.Feed.items (feeds_of ss) _ (gates_of ss) q n (c.start_all-stages.ensures.feeds c.if-not-all.false)
     c.start_all-stages.ensures.gates (length-map ss (λ s. s.gate) ∙ sym (length-map ss (λ s. s.feed))) at in
-    let all = map (λ r. r.feed) c.args.readies.items in
+    let all = map (λ r. r.feed) c.args.prepared.items in
     IfErr-weaker c.weave_all.result _ _ (λ e h. early e _ (λ q n. MayStop g.G.Gate.may_stop c.args.gate.now g.F.Feed.items all q n) stops h)
     c.weave_all.ensures.early

@@ -15,10 +15,10 @@ pub returns-in-Whole-clause-piped : goal.returns-in-Whole-clause-piped
 returns-in-Whole-clause-piped g c = rw c.in-Whole.ensures.feeds at c.finish_woven.ensures.piped
 
 pub drain-requires-in-Memory : goal.drain-requires-in-Memory
-drain-requires-in-Memory g c = omega (arith, as_many c.args.stages c.weave.new.stages c.in-Memory.ensures.feeds, c.requires.overs)
+drain-requires-in-Memory g c = omega (arith, as_many c.args.stages c.weave.new.stages c.in-Memory.ensures.feeds, c.requires.done_flags)
 
 pub drain-requires : goal.drain-requires
-drain-requires g c = omega (arith, as_many c.args.stages c.weave.new.stages c.in-Stopped.ensures.feeds, c.requires.overs)
+drain-requires g c = omega (arith, as_many c.args.stages c.weave.new.stages c.in-Stopped.ensures.feeds, c.requires.done_flags)
 
 pub stop_all-requires-clause-few : goal.stop_all-requires-clause-few
 stop_all-requires-clause-few g c =

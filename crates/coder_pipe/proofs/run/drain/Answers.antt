@@ -7,8 +7,8 @@ loop-q-preserved g c = (cc, cc, cc)
 pub rounds-preserved : goal.rounds-preserved
 rounds-preserved g c = search
 
-pub bounds-overs-q : goal.bounds-overs-q
-bounds-overs-q g c = omega arith
+pub bounds-done_flags-q : goal.bounds-done_flags-q
+bounds-done_flags-q g c = omega arith
 
 pub skip_one-requires : goal.skip_one-requires
 skip_one-requires g c = omega arith

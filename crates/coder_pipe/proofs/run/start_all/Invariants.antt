@@ -7,9 +7,9 @@ use Rattle.coder_pipe.proofs.run.start_all.Given as goal
 abbrev pub invariant-loop-ready : goal.invariant-loop-ready
 invariant-loop-ready g l =
     record {
-      feeds : feeds_of l.stages.items ++ map (λ r. r.feed) (into_iter_items l.ready-iterator) ≡ map (λ r. r.feed) l.fn.readies.items;
+      feeds : feeds_of l.stages.items ++ map (λ r. r.feed) (into_iter_items l.ready-iterator) ≡ map (λ r. r.feed) l.fn.prepared.items;
       room : vec_len l.stages + into_iter_len l.ready-iterator ≤ vec_capacity l.stages;
-      count : vec_len l.stages + into_iter_len l.ready-iterator ≡ length l.overs;
+      count : vec_len l.stages + into_iter_len l.ready-iterator ≡ length l.done_flags;
       gates : All (λ w. w ≡ l.gate) (gates_of l.stages.items);
       none : All (λ r. r ≡ []) (handed_of l.stages.items);
     }

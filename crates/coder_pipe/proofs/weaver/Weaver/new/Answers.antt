@@ -1,5 +1,5 @@
 use Rattle.std.proofs.Common.{◌≡◌, ◌∙◌, length, ap, rules}
-use Rattle.coder_pipe.proofs.Weaving.{along_first}
+use Rattle.coder_pipe.proofs.WeaverState.{along_first}
 use Rattle.coder_pipe.proofs.weaver.Weaver.new.Goals as goal
 
 pub invariant_of-result : goal.invariant_of-result

@@ -1,5 +1,5 @@
 use Rattle.file_encoding.proofs.Endings.{place_comes}
-use Rattle.coder_pipe.proofs.Weaving.{along_one}
+use Rattle.coder_pipe.proofs.WeaverState.{along_one}
 use Rattle.std.proofs.Common.{rules}
 use Rattle.coder_pipe.proofs.weaver.Weaver.take.Goals as goal
 

@@ -1,5 +1,5 @@
 use Rattle.file_encoding.specs.Ends.{MayCodeAll}
-use Rattle.coder_pipe.proofs.Weaving.{along_all, weaves_some}
+use Rattle.coder_pipe.proofs.WeaverState.{along_all, weaves_some}
 use Rattle.std.proofs.Common.{rules}
 use Rattle.coder_pipe.proofs.weaver.Weaver.take_all.Goals as goal
 

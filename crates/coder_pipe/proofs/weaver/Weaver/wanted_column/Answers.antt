@@ -1,5 +1,5 @@
 use Rattle.std.proofs.Common.{◌≡◌, ◌+◌, ◌-◌, ◌≤◌, length, arith, rules, sym}
-use Rattle.coder_pipe.proofs.Weaving.{column_fits, column_owned}
+use Rattle.coder_pipe.proofs.WeaverState.{column_fits, column_owned}
 use Rattle.coder_pipe.proofs.weaver.Weaver.wanted_column.Goals as goal
 use Rattle.coder_pipe.proofs.weaver.Weaver.wanted_column.Goals.{After-deref-2}
 

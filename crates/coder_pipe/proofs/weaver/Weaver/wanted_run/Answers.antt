@@ -1,5 +1,5 @@
 use Rattle.std.proofs.Common.{sym, arith, ◌<◌, ◌∙◌}
-use Rattle.coder_pipe.proofs.Weaving.{place_within, row_owned}
+use Rattle.coder_pipe.proofs.WeaverState.{place_within, row_owned}
 use Rattle.coder_pipe.proofs.weaver.Weaver.wanted_run.Goals as goal
 use Rattle.coder_pipe.proofs.weaver.Weaver.wanted_run.Goals.{In-Some}
 

@@ -1,5 +1,5 @@
 use Rattle.std.proofs.Common.{arith, ◌∙◌}
-use Rattle.coder_pipe.proofs.Weaving.{place_within, wants_none, wants_some}
+use Rattle.coder_pipe.proofs.WeaverState.{place_within, wants_none, wants_some}
 use Rattle.coder_pipe.proofs.weaver.Weaver.wants.Goals as goal
 
 pub returns-in_err-place : goal.returns-in_err-place
