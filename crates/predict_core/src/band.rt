@@ -19,7 +19,7 @@ use cube_core::fault::Fault;
 use cube_core::shape::Shape;
 use header_bits::params::Params;
 use sample_prediction::predictor::{MOST_COMPONENTS, Predictor};
-use sample_prediction::range::Range;
+use sample_prediction::sample_limits::SampleLimits;
 use sample_prediction::start::start_of;
 use std::alloc::Global;
 use std::marker::Model;
@@ -75,7 +75,7 @@ impl Band {
         let _rows = params.shape.rows();
         let settings = Settings {
             predictor,
-            range: Range::of(params.kind),
+            range: SampleLimits::of(params.kind),
             columns: params.shape.columns(),
             band: z,
             near: previous,

@@ -22,7 +22,7 @@ use crate::settings::Settings;
 use cube_core::cube::Cube;
 use sample_prediction::prediction::predicted_difference;
 use sample_prediction::predictor::MOST_COMPONENTS;
-use sample_prediction::weights::{form_of, update_by};
+use sample_prediction::weights::{step_shift, update_by};
 
 /// What the steps of the weights have in common, over places with the same exponent.
 #[derive(Clone, Copy)]
@@ -60,7 +60,7 @@ fn follow<const N: usize>(
         differences,
         steps.omega,
         steps.exponent,
-        form_of(steps.bits, steps.exponent),
+        step_shift(steps.bits, steps.exponent),
         sign_mask_of_error(own, predicted),
     );
 }

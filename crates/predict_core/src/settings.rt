@@ -8,13 +8,13 @@ ghost use Rattle.predict_core.specs.OpenPart.{AreWestMasks};
 
 use crate::west::WestMasks;
 use sample_prediction::predictor::Predictor;
-use sample_prediction::range::Range;
+use sample_prediction::sample_limits::SampleLimits;
 
 /// The parameters of a band's predictor, and what follows from them for all its samples.
 #[derive(Clone, Copy)]
 pub(crate) struct Settings {
     pub predictor: Predictor,
-    pub range: Range,
+    pub range: SampleLimits,
     pub columns: u32,
     pub band: u32,
     /// How many bands below are used.

@@ -9,7 +9,7 @@ pub mod exponent;
 pub mod neighbourhood;
 pub mod prediction;
 pub mod predictor;
-pub mod range;
+pub mod sample_limits;
 pub mod register;
 pub mod residual;
 pub mod start;
