@@ -5,7 +5,7 @@ use Rattle.cube_core.specs.Image.{Image}
 use Rattle.cube_core.specs.Order.{upto}
 use Rattle.header_bits.specs.declared.params.Params.{Params}
 use Rattle.lane_workers.specs.Runs.{RunSending}
-use Rattle.predict_core.specs.Following.{Learner, Follows}
+use Rattle.predict_core.specs.Following.{PredictorState, Follows}
 use Rattle.sample_prediction.specs.Residual.{residuals}
 use Rattle.cube_predictors.specs.Own.{own}
 use Rattle.cube_predictors.specs.Plans.{Dealing}
@@ -17,17 +17,17 @@ pub record IsSeen (p : Params) (c : Image) : Type 0 where
   pub kind : c.kind ≡ p.kind
 
 -- a band's predictor follows the image, and the place with raster index t comes next
-pub record IsAt (p : Params) (c : Image) (t : ℕ) (b : Learner) : Type 0 where
+pub record IsAt (p : Params) (c : Image) (t : ℕ) (b : PredictorState) : Type 0 where
   pub follows : Follows p b c
   pub next : b.t ≡ t
   pub inside : b.band < p.shape.bands
 
 -- so do all of some bands
-abbrev pub AreAt : Params → Image → ℕ → List Learner → Type 0
+abbrev pub AreAt : Params → Image → ℕ → List PredictorState → Type 0
 AreAt p c t bands = AllByRecursion (λ b. IsAt p c t b) bands
 
 -- which bands they are
-abbrev pub bands_of : List Learner → List ℕ
+abbrev pub bands_of : List PredictorState → List ℕ
 bands_of bands = map (λ b. b.band) bands
 
 -- a sender has taken all of a list after what it had, or it was stopped inside the list
@@ -41,7 +41,7 @@ pub record Sends {G : Type 0} (old new : RunSending G) (all : Bool) (list : List
   pub stopped : IsFalse all → IsTrue new.stopped
 
 -- a predictor's bands, each at its first place
-pub record AreFresh (p : Params) (q : ℕ) (deal : List ℕ) (c : Image) (bands : List Learner) : Type 0 where
+pub record AreFresh (p : Params) (q : ℕ) (deal : List ℕ) (c : Image) (bands : List PredictorState) : Type 0 where
   pub own : bands_of bands ≡ own q deal (upto p.shape.bands)
   pub at : AreAt p c 0 bands
 

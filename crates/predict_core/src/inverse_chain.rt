@@ -34,8 +34,8 @@ use sample_prediction::differences::west_of;
 use sample_prediction::exponent::{exponent_at, places_alike};
 use sample_prediction::prediction::predicted_difference;
 use sample_prediction::predictor::MOST_COMPONENTS;
-use sample_prediction::sample_limits::SampleLimits;
 use sample_prediction::residual::{prediction_of, unmap_by_center};
+use sample_prediction::sample_limits::SampleLimits;
 use sample_prediction::weights::{StepShift, update_by};
 
 /// A run below the first row whose samples aren't known yet: its first place, the local sums and components of its places as if

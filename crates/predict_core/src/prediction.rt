@@ -1,4 +1,4 @@
-//! The prediction of one sample, and what is learnt from it: one step of a band's predictor.
+//! The prediction of one sample and the weight update after it: one step of a band's predictor.
 
 ghost use Rattle.std.specs.Prelude.{◌≡◌, ◌+◌, ◌-◌, ◌*◌, ◌^◌, ◌<◌, pos, negsuc, ◌-ℤ◌, ◌*ℤ◌, ◌≤ℤ◌, int_lt, take, ◌++◌, replicate, ℤ, List, length};
 ghost use Rattle.cube_core.specs.Image.{IsPlace};

@@ -10,8 +10,8 @@ ghost use Rattle.cube_core.specs.Kind.{smin, smid, smax};
 ghost use Rattle.sample_prediction.specs.Bounds.{AllWithin, IsPredictor};
 
 use crate::predictor::{MOST_COMPONENTS, Predictor};
-use crate::sample_limits::SampleLimits;
 use crate::register::{floor_shift, register_of, wrapped_value};
+use crate::sample_limits::SampleLimits;
 use crate::weights::{product_of, product_of_first};
 
 /// Returns the scaled predicted sample value, from the local sum, the weights and the differences.
