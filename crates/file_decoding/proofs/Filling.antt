@@ -9,7 +9,7 @@ use Rattle.cube_core.proofs.Come.{time_of}
 use Rattle.cube_core.proofs.Lists.{get_set}
 use Rattle.cube_core.proofs.Tiles.{placed, time_at}
 use Rattle.header_bits.specs.declared.params.Params.{Params}
-use Rattle.predict_core.specs.Following.{Learner, Follows, MovesBy}
+use Rattle.predict_core.specs.Following.{PredictorState, Follows, MovesBy}
 use Rattle.predict_core.specs.Precedence.{AreAlike, Agree, SameBefore}
 use Rattle.sample_prediction.specs.Residual.{run_residuals}
 use Rattle.predict_core.specs.RunPlaces.{AreAlikeBeside}
@@ -22,28 +22,28 @@ use Rattle.file_decoding.specs.declared.tile.Tile.{Tile}
 use Rattle.file_decoding.specs.Tiles.{ComeTo, HasResiduals, IsFilled, start_of}
 
 -- of some parameters the samples of the tile's first n bands are found, and these bands are past the tile
-pub record AreFound (p : Params) (tile : Tile) (c d : Image) (now : List Learner) (deltas : List ℕ) (n : ℕ) : Type 0 where
+pub record AreFound (p : Params) (tile : Tile) (c d : Image) (now : List PredictorState) (deltas : List ℕ) (n : ℕ) : Type 0 where
   pub same : SameBefore p.order c d (start_of p tile)
   pub residuals : HasResiduals p d tile deltas n
-  pub along : (z : ℕ) (g : Learner) → slice_get now z ≡ Some g → tile.place.z ≤ z → z < tile.place.z + n
+  pub along : (z : ℕ) (g : PredictorState) → slice_get now z ≡ Some g → tile.place.z ≤ z → z < tile.place.z + n
       → IsAlong p d (start_of p tile + tile.columns * tile.bands) z g
 
 -- so it is of all parameters whose bands had come to the tile; the other bands are as they were
-pub record AreFilled (tile : Tile) (c d : Image) (bands now : List Learner) (deltas : List ℕ) (n : ℕ) : Type 0 where
+pub record AreFilled (tile : Tile) (c d : Image) (bands now : List PredictorState) (deltas : List ℕ) (n : ℕ) : Type 0 where
   pub alike : AreAlike c d
   pub many : length now ≡ length bands
-  pub each : (z : ℕ) (g : Learner) → slice_get now z ≡ Some g
+  pub each : (z : ℕ) (g : PredictorState) → slice_get now z ≡ Some g
       → ((slice_get bands z ≡ Some g) × (tile.place.z ≤ z → tile.place.z + n ≤ z)) ⊎ ((tile.place.z ≤ z) × (z < tile.place.z + n))
   pub found : (p : Params) → ComeTo p c tile bands → AreFound p tile c d now deltas n
 
 -- a band at its turn is as it was before the tile
-pub at_turn : {p : Params} {tile : Tile} {c d : Image} {bands now : List Learner} {deltas : List ℕ} {n : ℕ} {f : Learner} → ComeTo p c tile bands
+pub at_turn : {p : Params} {tile : Tile} {c d : Image} {bands now : List PredictorState} {deltas : List ℕ} {n : ℕ} {f : PredictorState} → ComeTo p c tile bands
     → n < tile.bands → AreFilled tile c d bands now deltas n → slice_get now (tile.place.z + n) ≡ Some f → IsAlong p c (start_of p tile) (tile.place.z + n) f
 at_turn m lt filled at =
     elim (filled.each _ _ at) [ inl (was, apart) ↦ m.along _ (omega (arith, lt, m.is.bands)) _ was | inr past ↦ absurd (omega (arith, past)) ]
 
 -- the run of the band that is next to be filled
-module _ {tile : Tile} {c d e : Image} {bands now : List Learner} {deltas run : List ℕ} {n : ℕ} {f g : Learner} (lt : n < tile.bands)
+module _ {tile : Tile} {c d e : Image} {bands now : List PredictorState} {deltas run : List ℕ} {n : ℕ} {f g : PredictorState} (lt : n < tile.bands)
     (filled : AreFilled tile c d bands now deltas n) (at : slice_get now (tile.place.z + n) ≡ Some f) (long : length run ≡ tile.columns)
     (moved : MovesBy (length run) f g) (beside : AreAlikeBeside d e f.band tile.place.y tile.place.x (length run))
     (told : (p : Params) → Follows p f d → run_residuals p e f.band f.t (length run) ≡ run) (follows : (p : Params) → Follows p f d → Follows p g e)
@@ -86,7 +86,7 @@ module _ {tile : Tile} {c d e : Image} {bands now : List Learner} {deltas run : 
           ∙ known.residuals i b column less)
     ]
 
-    along : (z : ℕ) (h : Learner) → slice_get (set now (tile.place.z + n) g) z ≡ Some h → tile.place.z ≤ z → z < tile.place.z + (n + 1)
+    along : (z : ℕ) (h : PredictorState) → slice_get (set now (tile.place.z + n) g) z ≡ Some h → tile.place.z ≤ z → z < tile.place.z + (n + 1)
         → IsAlong p e (start_of p tile + tile.columns * tile.bands) z h
     along z h there low high = elim (get_set now _ _ g h there) [
       | inl (k, is) ↦ rw (is, k)
@@ -112,7 +112,7 @@ module _ {tile : Tile} {c d e : Image} {bands now : List Learner} {deltas run : 
   }
 
 -- all bands are filled
-pub filled_whole : {tile : Tile} {c d : Image} {bands now : List Learner} {deltas : List ℕ} → AreFilled tile c d bands now deltas tile.bands
+pub filled_whole : {tile : Tile} {c d : Image} {bands now : List PredictorState} {deltas : List ℕ} → AreFilled tile c d bands now deltas tile.bands
     → length deltas ≡ tile.columns * tile.bands → (p : Params) → ComeTo p c tile bands → IsFilled p c d tile now deltas
 filled_whole filled long p m =
     let known = filled.found p m in

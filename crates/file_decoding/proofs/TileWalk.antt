@@ -17,7 +17,7 @@ use Rattle.cube_core.proofs.Lists.{map_taken}
 use Rattle.header_bits.specs.declared.params.Params.{Params}
 use Rattle.header_bits.specs.Lawful.{IsLawful}
 use Rattle.sample_adaptive.proofs.Times.{number_of_place}
-use Rattle.predict_core.specs.Following.{Learner}
+use Rattle.predict_core.specs.Following.{PredictorState}
 use Rattle.predict_core.specs.Precedence.{AreAlike}
 use Rattle.sample_prediction.specs.Residual.{mapped_residual}
 use Rattle.predict_core.specs.Walked.{residuals_at}
@@ -67,7 +67,7 @@ as_column tile t m i size mid unread now xs column before whole all g = record {
 -- ---- where a tile begins
 
 -- the reading end has given the residuals that the image has at the places gone by, and has read the bits from `start` on
-pub record IsWalked (p : Params) (c : Image) (left : List Place) (bands : List Learner) (d : EntropyDecoder) (start now : List Bool) : Type 0 where
+pub record IsWalked (p : Params) (c : Image) (left : List Place) (bands : List PredictorState) (d : EntropyDecoder) (start now : List Bool) : Type 0 where
   pub shape : c.shape ≡ p.shape
   pub kind : c.kind ≡ p.kind
   pub walk : IsOnWalk p c left bands
@@ -75,7 +75,7 @@ pub record IsWalked (p : Params) (c : Image) (left : List Place) (bands : List L
   pub text : start ≡ read ++ now
   pub given : HasGiven p d (residuals_at p c (gone_by p left)) read
 
-module _ {p : Params} {c : Image} {left : List Place} {bands : List Learner} {d : EntropyDecoder} {start now : List Bool} (lawful : IsLawful p)
+module _ {p : Params} {c : Image} {left : List Place} {bands : List PredictorState} {d : EntropyDecoder} {start now : List Bool} (lawful : IsLawful p)
     (w : IsWalked p c left bands d start now) where
   pub numbers_long : length (residuals_at p c (gone_by p left)) ≡ gone_count p left
   numbers_long =
@@ -116,7 +116,7 @@ module _ {p : Params} {c : Image} {left : List Place} {bands : List Learner} {d 
     }
 
     -- the residuals of the tile were given: the image with its samples has them
-    module _ {e : Image} {after : List Learner} (new : EntropyDecoder) {later : List Bool} (deltas : List ℕ) (filled : IsFilled p c e tile after deltas)
+    module _ {e : Image} {after : List PredictorState} (new : EntropyDecoder) {later : List Bool} (deltas : List ℕ) (filled : IsFilled p c e tile after deltas)
         (alike : AreAlike c e) (gives : GivesAll p new (residuals_at p c (gone_by p left)) w.read now later deltas)
         (long : length deltas ≡ tile.columns * tile.bands) (many : length after ≡ length bands) where
       value : (k : ℕ) → k < length deltas

@@ -5,7 +5,7 @@ use Rattle.cube_core.specs.Order.{place_index}
 use Rattle.cube_core.specs.Tiles.{IsTiled, most_bands}
 use Rattle.header_bits.specs.declared.params.Params.{Params}
 use Rattle.header_bits.specs.Lawful.{IsLawful}
-use Rattle.predict_core.specs.Following.{Learner}
+use Rattle.predict_core.specs.Following.{PredictorState}
 use Rattle.predict_core.specs.Precedence.{SameBefore}
 use Rattle.sample_prediction.specs.Residual.{mapped_residual}
 use Rattle.predict_core.specs.Walked.{AreAlong}
@@ -32,7 +32,7 @@ abbrev pub start_of : Params → Tile → ℕ
 start_of p tile = place_index p.shape p.order tile.place
 
 -- bands have come to a tile, and follow the image as far
-pub record ComeTo (p : Params) (c : Image) (tile : Tile) (bands : List Learner) : Type 0 where
+pub record ComeTo (p : Params) (c : Image) (tile : Tile) (bands : List PredictorState) : Type 0 where
   pub lawful : IsLawful p
   pub shape : c.shape ≡ p.shape
   pub kind : c.kind ≡ p.kind
@@ -46,7 +46,7 @@ HasResiduals p c tile deltas n =
     → mapped_residual p c (tile.place.z + b) (tile.place.y * p.shape.columns + (tile.place.x + i)) ≡ slice_index deltas (i * tile.bands + b)
 
 -- d is c before the tile and has these residuals at its places, and bands have come past them
-pub record IsFilled (p : Params) (c d : Image) (tile : Tile) (bands : List Learner) (deltas : List ℕ) : Type 0 where
+pub record IsFilled (p : Params) (c d : Image) (tile : Tile) (bands : List PredictorState) (deltas : List ℕ) : Type 0 where
   pub same : SameBefore p.order c d (start_of p tile)
   pub residuals : HasResiduals p d tile deltas tile.bands
   pub along : AreAlong p d (start_of p tile + length deltas) bands

@@ -11,7 +11,7 @@ use Rattle.cube_core.specs.Order.{IsOrder, from, upto, places}
 use Rattle.cube_core.proofs.Orders.{length-places}
 use Rattle.header_bits.specs.declared.params.Params.{Params}
 use Rattle.header_bits.specs.Lawful.{IsLawful}
-use Rattle.predict_core.specs.Following.{Learner}
+use Rattle.predict_core.specs.Following.{PredictorState}
 use Rattle.sample_prediction.specs.Residual.{residuals}
 use Rattle.file_encoding.specs.Ends.{FileEncoderState, HasCoded, MayCodeAll}
 use Rattle.predict_core.specs.Walked.{IsAlong, AreAlong}
@@ -26,25 +26,25 @@ own_all : (zs : List ℕ) → own 0 [] zs ≡ zs
 own_all [] = refl
 own_all (z ∷ zs) = ap (λ (ys : List ℕ). z ∷ ys) (own_all zs)
 
-numbered : (a : ℕ) (bands : List Learner) → ((z : ℕ) (b : Learner) → slice_get bands z ≡ Some b → b.band ≡ a + z) → bands_of bands ≡ from a (length bands)
+numbered : (a : ℕ) (bands : List PredictorState) → ((z : ℕ) (b : PredictorState) → slice_get bands z ≡ Some b → b.band ≡ a + z) → bands_of bands ≡ from a (length bands)
 numbered a [] h = refl
 numbered a (b ∷ bands) h = ap₂ (λ z zs. z ∷ zs) (h 0 b refl ∙ omega arith) (numbered (suc a) bands (λ z d e. h (suc z) d e ∙ omega arith))
 
-all_at : (p : Params) (c : Image) (t : ℕ) (bands : List Learner) → ((z : ℕ) (b : Learner) → slice_get bands z ≡ Some b → IsAt p c t b) → AreAt p c t bands
+all_at : (p : Params) (c : Image) (t : ℕ) (bands : List PredictorState) → ((z : ℕ) (b : PredictorState) → slice_get bands z ≡ Some b → IsAt p c t b) → AreAt p c t bands
 all_at p c t [] h = tt
 all_at p c t (b ∷ bands) h = (h 0 b refl, all_at p c t bands (λ z d e. h (suc z) d e))
 
-pub all_fresh : (p : Params) (c : Image) (bands : List Learner) → length bands ≡ p.shape.bands → AreAlong p c 0 bands
-    → ((z : ℕ) (b : Learner) → slice_get bands z ≡ Some b → b.t ≡ 0) → AreFresh p 0 [] c bands
+pub all_fresh : (p : Params) (c : Image) (bands : List PredictorState) → length bands ≡ p.shape.bands → AreAlong p c 0 bands
+    → ((z : ℕ) (b : PredictorState) → slice_get bands z ≡ Some b → b.t ≡ 0) → AreFresh p 0 [] c bands
 all_fresh p c bands many along first = record {
   own = numbered 0 bands (λ z b e. (known z b e).band ∙ omega arith) ∙ ap upto many ∙ sym (own_all (upto p.shape.bands));
   at = all_at p c 0 bands (λ z b e. record { follows = (known z b e).follows; next = first z b e; inside = omega (arith, (known z b e).band, within z b e) });
 }
   where
-    within : (z : ℕ) (b : Learner) → slice_get bands z ≡ Some b → z < p.shape.bands
+    within : (z : ℕ) (b : PredictorState) → slice_get bands z ≡ Some b → z < p.shape.bands
     within z b e = omega (arith, slice_get_within bands z b e, many)
 
-    known : (z : ℕ) (b : Learner) → slice_get bands z ≡ Some b → IsAlong p c 0 z b
+    known : (z : ℕ) (b : PredictorState) → slice_get bands z ≡ Some b → IsAlong p c 0 z b
     known z b e = along z (within z b e) b e
 
 -- ---- their residuals

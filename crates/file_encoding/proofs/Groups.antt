@@ -15,7 +15,7 @@ use Rattle.cube_core.specs.Image.{Image}
 use Rattle.cube_core.specs.Shape.{Sizes}
 use Rattle.cube_core.specs.Order.{from, upto, group, group_count}
 use Rattle.header_bits.specs.declared.params.Params.{Params}
-use Rattle.predict_core.specs.Following.{Learner}
+use Rattle.predict_core.specs.Following.{PredictorState}
 use Rattle.file_encoding.specs.Own.{own, row_of, line_of}
 use Rattle.file_encoding.specs.Walks.{bands_of}
 use Rattle.file_encoding.proofs.Sending.{from_split, upto_split, row_of_none, same_lists}
@@ -61,7 +61,7 @@ own_few q deal a n =
 -- ---- group after group
 
 -- the i-th group's bands among the predictor's
-pub record IsGroup (q : ℕ) (deal : List ℕ) (s : Sizes) (depth i total end slot count : ℕ) (bands : List Learner) : Type 0 where
+pub record IsGroup (q : ℕ) (deal : List ℕ) (s : Sizes) (depth i total end slot count : ℕ) (bands : List PredictorState) : Type 0 where
   pub in_order : i < group_count s depth
   pub next : end ≡ min ((i + 1) * depth) s.bands
   pub more : slot + count ≡ length (own q deal (upto end))
@@ -69,7 +69,7 @@ pub record IsGroup (q : ℕ) (deal : List ℕ) (s : Sizes) (depth i total end sl
   pub few : length bands ≤ total
   pub there : bands_of (take (slot + count - slot) (drop slot bands)) ≡ own q deal (group s depth i)
 
-pub is_group : (q : ℕ) (deal : List ℕ) (s : Sizes) (depth i first total end slot count : ℕ) (bands : List Learner) → 1 ≤ depth → total ≡ s.bands
+pub is_group : (q : ℕ) (deal : List ℕ) (s : Sizes) (depth i first total end slot count : ℕ) (bands : List PredictorState) → 1 ≤ depth → total ≡ s.bands
     → i < (total + depth - 1) / depth → first ≡ min (i * depth) s.bands → end ≡ min total (first + depth) → slot ≡ length (own q deal (upto first))
     → count ≡ length (own q deal (from first (end - first))) → bands_of bands ≡ own q deal (upto s.bands) → IsGroup q deal s depth i total end slot count bands
 is_group q deal s depth i first total end slot count bands some all lt first_is end_is slot_is count_is own_is =

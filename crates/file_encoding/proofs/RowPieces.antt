@@ -16,7 +16,7 @@ use Rattle.cube_core.proofs.Lists.{get_or-from, length-from}
 use Rattle.header_bits.proofs.Items.{all_append, all_weaker}
 use Rattle.header_bits.proofs.TableWriting.{all_at}
 use Rattle.header_bits.specs.declared.params.Params.{Params}
-use Rattle.predict_core.specs.Following.{Learner, HoldsPiece}
+use Rattle.predict_core.specs.Following.{PredictorState, HoldsPiece}
 use Rattle.sample_prediction.specs.Residual.{mapped_residual, run_residuals}
 use Rattle.file_encoding.specs.Own.{column_of}
 use Rattle.file_encoding.specs.Walks.{IsAt, AreAt, bands_of}
@@ -26,7 +26,7 @@ use Rattle.file_encoding.proofs.Sending.{at_same, from_split, same_lists, all_it
 -- ---- the bands
 
 -- one band has gone over its piece, and so the bands up to it
-pub past_step : (p : Params) (c : Image) (t n i : ℕ) (bands : List Learner) (b d : Learner) → i < length bands → ArePast p c t n (take i bands)
+pub past_step : (p : Params) (c : Image) (t n i : ℕ) (bands : List PredictorState) (b d : PredictorState) → i < length bands → ArePast p c t n (take i bands)
     → AreAt p c t (drop i bands) → HoldsPiece c n (get_or bands i b) d
     → ArePast p c t n (take (i + 1) (set bands i d)) × AreAt p c t (drop (i + 1) (set bands i d))
 past_step p c t n i bands b d lt done left piece =
@@ -44,12 +44,12 @@ past_step p c t n i bands b d lt done left piece =
     (rw (take_more_set bands i d lt) all, rw (drop-set-lt (i + 1) bands i d (omega arith)) here.1)
 
 -- it is the same band as before
-pub band_set : (c : Image) (n : ℕ) (bands : List Learner) (k : ℕ) (b d : Learner) → HoldsPiece c n (get_or bands k b) d
+pub band_set : (c : Image) (n : ℕ) (bands : List PredictorState) (k : ℕ) (b d : PredictorState) → HoldsPiece c n (get_or bands k b) d
     → bands_of (set bands k d) ≡ bands_of bands
 band_set c n bands k b d piece = map-set_same (λ r. r.band) _ _ _ b piece.moved.band
 
 -- two bands that are parted between them have gone over their pieces, and so the bands up to them
-pub past_two : (p : Params) (c : Image) (t n i : ℕ) (bands before rest : List Learner) (b d e f : Learner) → i + 1 < length bands
+pub past_two : (p : Params) (c : Image) (t n i : ℕ) (bands before rest : List PredictorState) (b d e f : PredictorState) → i + 1 < length bands
     → before ≡ take (i + 1) bands → rest ≡ drop (i + 1) bands → ArePast p c t n (take i bands) → AreAt p c t (drop i bands)
     → HoldsPiece c n (get_or before i b) d → HoldsPiece c n (get_or rest 0 e) f
     → (bands_of (set before i d ++ set rest 0 f) ≡ bands_of bands)
@@ -76,12 +76,12 @@ past_two p c t n i bands before rest b d e f lt front back done left piece other
         ∙ set-append_right (set before i d) rest (i + 1) (i + 1) f (length-set before i d ∙ long) (omega arith)
         ∙ ap (λ k. set before i d ++ set rest k f) (omega arith)
 
-pub past_at : (p : Params) (c : Image) (t n u : ℕ) (bands : List Learner) → ArePast p c t n bands → t + n ≡ u → AreAt p c u bands
+pub past_at : (p : Params) (c : Image) (t n u : ℕ) (bands : List PredictorState) → ArePast p c t n bands → t + n ≡ u → AreAt p c u bands
 past_at p c t n u bands h e = at_same p c (t + n) u bands (all_weaker (IsPast p c t n) (IsAt p c (t + n)) (λ b h. h.at) bands h) e
 
 -- ---- what they hold
 
-held_column : (p : Params) (c : Image) (y x n i : ℕ) (bands : List Learner) → i < n → ArePast p c (y * c.shape.columns + x) n bands
+held_column : (p : Params) (c : Image) (y x n i : ℕ) (bands : List PredictorState) → i < n → ArePast p c (y * c.shape.columns + x) n bands
     → held_at bands i ≡ column_of p c (bands_of bands) y (x + i)
 held_column p c y x n i [] lt h = refl
 held_column p c y x n i (b ∷ bands) lt h = ap₂ (λ r rs. r ∷ rs) there (held_column p c y x n i bands lt h.1)
@@ -92,14 +92,14 @@ held_column p c y x n i (b ∷ bands) lt h = ap₂ (λ r rs. r ∷ rs) there (he
         (ap (mapped_residual p c b.band) (omega arith))
 
 -- the residuals of the columns of a piece
-pub held_is : (p : Params) (c : Image) (y x n : ℕ) (bands : List Learner) (zs : List ℕ) → ArePast p c (y * c.shape.columns + x) n bands → bands_of bands ≡ zs
+pub held_is : (p : Params) (c : Image) (y x n : ℕ) (bands : List PredictorState) (zs : List ℕ) → ArePast p c (y * c.shape.columns + x) n bands → bands_of bands ≡ zs
     → held_of bands n ≡ flat_map (λ k. column_of p c zs y k) (from x n)
 held_is p c y x n bands zs h same =
     rw (← same) (same_lists (λ i. held_at bands i) (λ k. column_of p c (bands_of bands) y k) 0 x n
     (λ i lt. ap (λ k. held_at bands k) (omega arith) ∙ held_column p c y x n i bands lt h))
 
 -- what one of some bands holds is a part of its row
-pub row_piece : (p : Params) (c : Image) (y x n k : ℕ) (bands : List Learner) (zs : List ℕ) (b : Learner) (numbers : List ℕ) → k < length bands
+pub row_piece : (p : Params) (c : Image) (y x n k : ℕ) (bands : List PredictorState) (zs : List ℕ) (b : PredictorState) (numbers : List ℕ) → k < length bands
     → ArePast p c (y * c.shape.columns + x) n bands → bands_of bands ≡ zs → numbers ≡ take n (get_or bands k b).piece
     → numbers ≡ flat_map (λ i. column_of p c (get_or zs k 0 ∷ []) y i) (from x n)
 row_piece p c y x n k bands zs b numbers lt past same is =
@@ -114,7 +114,7 @@ row_piece p c y x n k bands zs b numbers lt past same is =
 -- ---- runs of a column, and of one band
 
 -- what was gathered of a column stands in front of what the room held before
-pub gathered : (bands : List Learner) (i first n many : ℕ) (numbers room : List ℕ) → first + n ≤ length bands → many ≡ n
+pub gathered : (bands : List PredictorState) (i first n many : ℕ) (numbers room : List ℕ) → first + n ≤ length bands → many ≡ n
     → numbers ≡ held_at (take many (drop first bands)) i → take n (numbers ++ room) ≡ take n (drop first (held_at bands i))
 gathered bands i first n many numbers room le same is =
     let run : numbers ≡ take n (drop first (held_at bands i)) = is ∙ rw (same, ← take-map, ← drop-map) refl in
@@ -124,17 +124,17 @@ gathered bands i first n many numbers room le same is =
     take_at numbers room n long ∙ run
 
 -- one band's residuals, place after place, are those that it holds
-pub held_alone : (bands : List Learner) (b : Learner) (n : ℕ) (numbers : List ℕ) → length bands ≡ 1 → b ≡ get_or bands 0 b → numbers ≡ take n b.piece
+pub held_alone : (bands : List PredictorState) (b : PredictorState) (n : ℕ) (numbers : List ℕ) → length bands ≡ 1 → b ≡ get_or bands 0 b → numbers ≡ take n b.piece
     → length numbers ≡ n → numbers ≡ held_of bands n
 held_alone bands b n numbers one there is long =
     let enough : 0 + n ≤ length b.piece = omega (arith, long, ap (λ (ns : List ℕ). length ns) is, length-take n b.piece) in
-    let alone : b ∷ [] ≡ bands = ap (λ (r : Learner). r ∷ []) there ∙ sym (all_items bands b 1 one) in
+    let alone : b ∷ [] ≡ bands = ap (λ (r : PredictorState). r ∷ []) there ∙ sym (all_items bands b 1 one) in
     is ∙ sym (flat_map_single (λ i. get_or b.piece i 0) (upto n) ∙ items_from b.piece 0 0 n enough) ∙ ap (λ bs. held_of bs n) alone
 
 -- ---- several columns at once
 
 -- the residuals of one more place, after those of the places before it
-pub places_more : (bands : List Learner) (first k n many count : ℕ) (room numbers : List ℕ) → length numbers ≡ many → length room ≡ count * many → k < count
+pub places_more : (bands : List PredictorState) (first k n many count : ℕ) (room numbers : List ℕ) → length numbers ≡ many → length room ≡ count * many → k < count
     → numbers ≡ held_at bands (first + k) → take (k * many) room ≡ flat_map (λ i. held_at bands i) (from first k)
     → take ((k + 1) * many) (put_mid (k * many) n room numbers) ≡ flat_map (λ i. held_at bands i) (from first (k + 1))
 places_more bands first k n many count room numbers long all lt is done =

@@ -10,7 +10,7 @@ use Rattle.std.proofs.lemmas.List.{map-append, take-append-drop, drop-drop, take
 use Rattle.cube_core.specs.Image.{Image}
 use Rattle.cube_core.specs.Order.{from, upto}
 use Rattle.header_bits.specs.declared.params.Params.{Params}
-use Rattle.predict_core.specs.Following.{Learner}
+use Rattle.predict_core.specs.Following.{PredictorState}
 use Rattle.header_bits.proofs.Items.{all_append, all_drop}
 use Rattle.file_encoding.specs.Own.{row_of}
 use Rattle.file_encoding.specs.Walks.{IsAt, AreAt, bands_of}
@@ -99,7 +99,7 @@ module _ {S : Type 0} {may : S → List ℕ → Type 0} {takes : S → S → Boo
 
 -- ---- some of the bands
 
-pub at_same : (p : Params) (c : Image) (t u : ℕ) (bands : List Learner) → AreAt p c t bands → t ≡ u → AreAt p c u bands
+pub at_same : (p : Params) (c : Image) (t u : ℕ) (bands : List PredictorState) → AreAt p c t bands → t ≡ u → AreAt p c u bands
 at_same p c t u bands h e = subst (λ k. AreAt p c k bands) e h
 
 pub nothing_each : {A : Type 0} (xs : List A) → flat_map {X = A} {A = ℕ} (λ x. []) xs ≡ []
@@ -112,28 +112,28 @@ unfolding row_of
 row_of_none p c y = nothing_each (upto c.shape.columns)
 
 -- some bands were put in the place of as many
-pub bands_put : (bands was sub : List Learner) (i n : ℕ) → bands_of bands ≡ bands_of was → bands_of sub ≡ bands_of (take n (drop i bands))
+pub bands_put : (bands was sub : List PredictorState) (i n : ℕ) → bands_of bands ≡ bands_of was → bands_of sub ≡ bands_of (take n (drop i bands))
     → bands_of (put_mid i n bands sub) ≡ bands_of was
 bands_put bands was sub i n same e = rw (map-append, map-append, e, ← map-append, take-append-drop, ← map-append, take-append-drop) same
 
 -- the first i bands are done, and the others are still at place t
-pub record Parted (Done : Learner → Type 0) (p : Params) (c : Image) (t i : ℕ) (bands was : List Learner) : Type 0 where
+pub record Parted (Done : PredictorState → Type 0) (p : Params) (c : Image) (t i : ℕ) (bands was : List PredictorState) : Type 0 where
   pub done : AllByRecursion Done (take i bands)
   pub left : AreAt p c t (drop i bands)
   pub same : bands_of bands ≡ bands_of was
 
 -- which bands come next
-pub next_bands : (bands was : List Learner) (i m n : ℕ) → m ≡ n → bands_of bands ≡ bands_of was
+pub next_bands : (bands was : List PredictorState) (i m n : ℕ) → m ≡ n → bands_of bands ≡ bands_of was
     → bands_of (take m (drop i bands)) ≡ take n (drop i (bands_of was))
 next_bands bands was i m n e same = rw (e, ← take-map, ← drop-map, same) refl
 
 -- the next n are done too, and were put back
-pub parted_put : {Done : Learner → Type 0} {p : Params} {c : Image} {t i : ℕ} {bands was : List Learner} (n j : ℕ) (sub : List Learner)
+pub parted_put : {Done : PredictorState → Type 0} {p : Params} {c : Image} {t i : ℕ} {bands was : List PredictorState} (n j : ℕ) (sub : List PredictorState)
     → Parted Done p c t i bands was → j ≡ i + n → j ≤ length bands → AllByRecursion Done sub → bands_of sub ≡ bands_of (take n (drop i bands))
     → Parted Done p c t j (put_mid i n bands sub) was
 parted_put {Done = Done} {p = p} {c = c} {t = t} {i = i} {bands = bands} {was = was} n j sub h e fits past same =
     let long = ap (λ (zs : List ℕ). length zs) same in
-    let many : length sub ≡ n = omega (arith, long, e, fits, length-map {A = Learner} {B = ℕ}, length-take n (drop i bands), length-drop i bands) in
+    let many : length sub ≡ n = omega (arith, long, e, fits, length-map {A = PredictorState} {B = ℕ}, length-take n (drop i bands), length-drop i bands) in
     record {
       done = rw (take-put_mid i n bands sub j (omega (arith, e, many)) (omega (arith, e, fits))) (all_append Done (take i bands) sub h.done past);
       left = rw (drop-put_mid i n bands sub j (omega (arith, e)) (omega (arith, e, fits)) many, e)
@@ -152,12 +152,12 @@ pub all_items : {A : Type 0} (xs : List A) (d : A) (n : ℕ) → length xs ≡ n
 all_items xs d n e = sym (items_from xs d 0 n (omega (arith, e)) ∙ take_all n xs (omega (arith, e)))
 
 -- one band alone, and two
-pub one_alone : (f : List ℕ → List ℕ) (bands : List Learner) → length bands ≡ 1 → f (bands_of bands) ≡ flat_map (λ z. f (z ∷ [])) (bands_of bands)
+pub one_alone : (f : List ℕ → List ℕ) (bands : List PredictorState) → length bands ≡ 1 → f (bands_of bands) ≡ flat_map (λ z. f (z ∷ [])) (bands_of bands)
 one_alone f bands e =
     let all = all_items (bands_of bands) 0 1 (length-map bands (λ b. b.band) ∙ e) in
     subst (λ v. f v ≡ flat_map (λ z. f (z ∷ [])) v) (sym all) (sym (append-nil (f (get_or (bands_of bands) 0 0 ∷ []))))
 
-pub two_alone : (f : ℕ → List ℕ) (bands : List Learner) → length bands ≡ 2
+pub two_alone : (f : ℕ → List ℕ) (bands : List PredictorState) → length bands ≡ 2
     → flat_map f (bands_of bands) ≡ f (get_or (bands_of bands) 0 0) ++ f (get_or (bands_of bands) 1 0)
 two_alone f bands e =
     ap (flat_map f) (all_items (bands_of bands) 0 2 (length-map bands (λ b. b.band) ∙ e))

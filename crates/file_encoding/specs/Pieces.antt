@@ -4,23 +4,23 @@ use Rattle.std.specs.List.{flat_map, AllByRecursion}
 use Rattle.cube_core.specs.Image.{Image}
 use Rattle.cube_core.specs.Order.{upto}
 use Rattle.header_bits.specs.declared.params.Params.{Params}
-use Rattle.predict_core.specs.Following.{Learner}
+use Rattle.predict_core.specs.Following.{PredictorState}
 use Rattle.sample_prediction.specs.Residual.{run_residuals}
 use Rattle.file_encoding.specs.Walks.{IsAt}
 
 -- a band's predictor has gone over n places from place t on, and holds their residuals
-pub record IsPast (p : Params) (c : Image) (t n : ℕ) (b : Learner) : Type 0 where
+pub record IsPast (p : Params) (c : Image) (t n : ℕ) (b : PredictorState) : Type 0 where
   pub at : IsAt p c (t + n) b
   pub held : take n b.piece ≡ run_residuals p c b.band t n
 
 -- so have all of some bands
-abbrev pub ArePast : Params → Image → ℕ → ℕ → List Learner → Type 0
+abbrev pub ArePast : Params → Image → ℕ → ℕ → List PredictorState → Type 0
 ArePast p c t n bands = AllByRecursion (λ b. IsPast p c t n b) bands
 
 -- the residuals that bands hold of place i of their pieces
-abbrev pub held_at : List Learner → ℕ → List ℕ
+abbrev pub held_at : List PredictorState → ℕ → List ℕ
 held_at bands i = map (λ b. slice_index_or b.piece i 0) bands
 
 -- those of their first n places, place after place
-abbrev pub held_of : List Learner → ℕ → List ℕ
+abbrev pub held_of : List PredictorState → ℕ → List ℕ
 held_of bands n = flat_map (λ i. held_at bands i) (upto n)

@@ -15,7 +15,7 @@ use Rattle.header_bits.specs.declared.params.Params.{Params}
 use Rattle.header_bits.specs.Lawful.{IsLawful}
 use Rattle.predict_core.specs.Precedence.{AreAlike, Agree, SameBefore}
 use Rattle.sample_prediction.specs.Residual.{mapped_residual}
-use Rattle.predict_core.specs.Following.{Learner, Follows}
+use Rattle.predict_core.specs.Following.{PredictorState, Follows}
 use Rattle.predict_core.specs.RunPlaces.{AreAlikeBeside}
 use Rattle.predict_core.specs.Walked.{IsAlong, residuals_at}
 use Rattle.predict_core.proofs.Earlier.{low_index}
@@ -29,7 +29,7 @@ some_of : (p : Params) (c : Image) → IsLawful p → c.shape ≡ p.shape → 0 
 some_of p c lawful shape = rw shape lawful.sizes.columns.0
 
 -- a band follows each image that is one with its own as far as the band has come
-pub along_same : {p : Params} {c d : Image} {i z : ℕ} {f : Learner} → IsLawful p → c.shape ≡ p.shape → z < p.shape.bands → IsAlong p c i z f
+pub along_same : {p : Params} {c d : Image} {i z : ℕ} {f : PredictorState} → IsLawful p → c.shape ≡ p.shape → z < p.shape.bands → IsAlong p c i z f
     → Agree c d z f.t f.t → IsAlong p d i z f
 along_same {p} {c} lawful shape band along agree = record {
   band = along.band;
@@ -43,7 +43,7 @@ along_same {p} {c} lawful shape band along agree = record {
 }
 
 -- images that are one beside a run of a band from its next place on are so at all places before it
-pub same_beside : {p : Params} {c d : Image} {i z y x n : ℕ} {f : Learner} → c.shape ≡ p.shape → IsAlong p c i z f → f.t ≡ y * p.shape.columns + x
+pub same_beside : {p : Params} {c d : Image} {i z y x n : ℕ} {f : PredictorState} → c.shape ≡ p.shape → IsAlong p c i z f → f.t ≡ y * p.shape.columns + x
     → AreAlikeBeside c d f.band y x n → SameBefore p.order c d i
 same_beside {p} {c} shape along next beside r there before = beside.samples r.z r.y r.x there (λ own row column.
     let early = (along.come r (rw shape at there) (own ∙ along.band)).0 (rw shape at before) in let line = ap (λ (n : ℕ). n * p.shape.columns) row in
@@ -62,7 +62,7 @@ module _ {p : Params} {c d : Image} (lawful : IsLawful p) (shape : c.shape ≡ p
     under = λ z' y x there below lt. same _ there (first _ there (omega arith) lt);
   }
 
-  pub along_kept : {i z : ℕ} {f : Learner} → SameBefore p.order c d i → z < p.shape.bands → IsAlong p c i z f → IsAlong p d i z f
+  pub along_kept : {i z : ℕ} {f : PredictorState} → SameBefore p.order c d i → z < p.shape.bands → IsAlong p c i z f → IsAlong p d i z f
   along_kept {i} {z} {f} same band along =
       along_same lawful shape band along
       (agree_first _ _ _ (λ r there low lt.
@@ -95,7 +95,7 @@ module _ (p : Params) (c : Image) (q : Place) (v : ℤ) where
   residuals_kept left lawful shape stands = residuals_same lawful shape (record { shape = refl; kind = refl }) _ (put_same (gone_count p left) shape stands)
 
   -- a band that isn't at its turn follows it, too
-  pub others_follow : (i z : ℕ) (f : Learner) → IsLawful p → c.shape ≡ p.shape → StandsAt p.shape p.order q i
+  pub others_follow : (i z : ℕ) (f : PredictorState) → IsLawful p → c.shape ≡ p.shape → StandsAt p.shape p.order q i
       → z < p.shape.bands → IsAlong p c i z f → Follows p f (put c q.z q.y q.x v)
   others_follow i z f lawful shape stands band along =
       (along_kept lawful shape (record { shape = refl; kind = refl }) (put_same i shape stands) band along).follows

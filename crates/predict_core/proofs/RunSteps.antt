@@ -8,7 +8,7 @@ use Rattle.cube_core.specs.Image.{Image}
 use Rattle.cube_core.specs.Order.{from}
 use Rattle.cube_core.proofs.Lists.{length-from, get_or-from}
 use Rattle.header_bits.specs.declared.params.Params.{Params}
-use Rattle.predict_core.specs.Following.{Learner, MovesOn, MovesBy}
+use Rattle.predict_core.specs.Following.{PredictorState, MovesOn, MovesBy}
 use Rattle.sample_prediction.specs.Residual.{mapped_residual, run_residuals}
 
 pub one_more : (f : ℕ → ℕ) (a n : ℕ) → map f (from a (suc n)) ≡ map f (from a n) ++ f (a + n) ∷ []
@@ -28,10 +28,10 @@ pub bound_next : (n i : ℕ) (rs : List ℕ) (r : ℕ) → i < length rs → r <
 bound_next n i rs r h l b k m =
     elim (cases_eq k i) [ inl e ↦ rw (e, get_or-set_same rs i r 0 h) l | inr d ↦ rw (get_or-set_other rs i k r 0 d) (b k (omega arith)) ]
 
-pub moved_none : (b : Learner) → MovesBy 0 b b
+pub moved_none : (b : PredictorState) → MovesBy 0 b b
 moved_none b = record { predictor = refl; shape = refl; kind = refl; band = refl; t = omega arith }
 
-pub moved_next : (i : ℕ) (a b d : Learner) → MovesBy i a b → MovesOn b d → MovesBy (i + 1) a d
+pub moved_next : (i : ℕ) (a b d : PredictorState) → MovesBy i a b → MovesOn b d → MovesBy (i + 1) a d
 moved_next i a b d m n = record {
   predictor = n.predictor ∙ m.predictor;
   shape = n.shape ∙ m.shape;

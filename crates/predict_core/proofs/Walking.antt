@@ -17,7 +17,7 @@ use Rattle.cube_core.proofs.Orders.{StandsAt, length-places}
 use Rattle.cube_core.proofs.Come.{time_of, come_start, come_here, come_step, come_other}
 use Rattle.cube_core.proofs.Tiles.{nth, item_in, room_for, time_at, come_within, come_beside}
 use Rattle.header_bits.specs.declared.params.Params.{Params}
-use Rattle.predict_core.specs.Following.{Learner, Follows, MovesOn, MovesBy}
+use Rattle.predict_core.specs.Following.{PredictorState, Follows, MovesOn, MovesBy}
 use Rattle.sample_prediction.specs.Residual.{mapped_residual, residuals}
 use Rattle.predict_core.specs.Walked.{IsAlong, AreAlong, residuals_at}
 
@@ -31,20 +31,20 @@ length-residuals_at p c gone = length-map gone _
 -- ---- the bands
 
 -- a band at its first place
-pub along_first : (p : Params) (c : Image) (z : ℕ) (b : Learner) → b.band ≡ z → b.t ≡ 0 → Follows p b c → IsAlong p c 0 z b
+pub along_first : (p : Params) (c : Image) (z : ℕ) (b : PredictorState) → b.band ≡ z → b.t ≡ 0 → Follows p b c → IsAlong p c 0 z b
 along_first p c z b band first follows =
     record { band = band; inside = omega (arith, first); follows = follows; come = rw first (come_start p.shape p.order z) }
 
 -- what is known of the band that comes next
-pub band_here : (p : Params) (c : Image) (i : ℕ) (bands : List Learner) (q : Place) (b : Learner) → IsOrder p.shape p.order → AreAlong p c i bands
+pub band_here : (p : Params) (c : Image) (i : ℕ) (bands : List PredictorState) (q : Place) (b : PredictorState) → IsOrder p.shape p.order → AreAlong p c i bands
     → StandsAt p.shape p.order q i → slice_get bands q.z ≡ Some b → IsAlong p c i q.z b × (b.t ≡ time_of p.shape q)
 band_here p c i bands q b lawful all stands e =
     let along = all q.z stands.place.band b e in (along, sym (come_here p.shape p.order q.z i b.t q lawful along.come stands refl))
 
 -- one place more, and with it another image, which the other bands follow as well
-along_more : (p : Params) (c e : Image) (i : ℕ) (bands : List Learner) (q : Place) (b d : Learner)
+along_more : (p : Params) (c e : Image) (i : ℕ) (bands : List PredictorState) (q : Place) (b d : PredictorState)
     → IsOrder p.shape p.order → AreAlong p c i bands → StandsAt p.shape p.order q i → slice_get bands q.z ≡ Some b → MovesOn b d → Follows p d e
-    → ((z : ℕ) (f : Learner) → z < p.shape.bands → z ≢ q.z → IsAlong p c i z f → Follows p f e) → AreAlong p e (i + 1) (set bands q.z d)
+    → ((z : ℕ) (f : PredictorState) → z < p.shape.bands → z ≢ q.z → IsAlong p c i z f → Follows p f e) → AreAlong p e (i + 1) (set bands q.z d)
 along_more p c e i bands q b d lawful all stands at moves follows others-follow z lt f g =
     elim (get_set bands q.z z d f g) [ inl (h, k) ↦ rw (h, k) own | inr (h, k) ↦ other h (all z lt f k) ]
   where
@@ -67,14 +67,14 @@ along_more p c e i bands q b d lawful all stands at moves follows others-follow 
     }
 
 -- after a tile
-module _ {p : Params} {c : Image} {q : Place} {width depth z : ℕ} {f : Learner} (lawful : IsOrder p.shape p.order)
+module _ {p : Params} {c : Image} {q : Place} {width depth z : ℕ} {f : PredictorState} (lawful : IsOrder p.shape p.order)
     (is : IsTiled p.shape p.order q width depth) (along : IsAlong p c (place_index p.shape p.order q) z f) where
   -- a band that has no place in it stands where it stood
   pub along_beside : (q.z ≤ z → q.z + depth ≤ z) → IsAlong p c (place_index p.shape p.order q + width * depth) z f
   along_beside apart = record { band = along.band; inside = along.inside; follows = along.follows; come = come_beside lawful is z _ along.come apart }
 
   -- and each of its bands as many places further as it has columns
-  pub along_within : {e : Image} {g : Learner} → q.z ≤ z → z < q.z + depth → MovesBy width f g → Follows p g e
+  pub along_within : {e : Image} {g : PredictorState} → q.z ≤ z → z < q.z + depth → MovesBy width f g → Follows p g e
       → IsAlong p e (place_index p.shape p.order q + width * depth) z g
   along_within {g = g} low high moved follows =
       let row = row_fits _ p.shape.columns _ p.shape.columns is.place.row (omega arith) in
@@ -95,7 +95,7 @@ abbrev pub gone_by : Params → List Place → List Place
 gone_by p left = take (gone_count p left) (places p.shape p.order)
 
 -- the places left are the last of the order, and each band has followed the image over those of its places that have gone by
-pub record IsOnWalk (p : Params) (c : Image) (left : List Place) (bands : List Learner) : Type 0 where
+pub record IsOnWalk (p : Params) (c : Image) (left : List Place) (bands : List PredictorState) : Type 0 where
   pub rest : left ≡ drop (gone_count p left) (places p.shape p.order)
   pub many : length bands ≡ p.shape.bands
   pub along : AreAlong p c (gone_count p left) bands
@@ -149,9 +149,9 @@ next_goes p q left rest lawful is e =
     rw e (record { stands = next_place p lawful here q refl; below = omega arith; count = goes.count; gone = goes.gone; others = goes.others })
 
 -- one step of the walk
-pub on_walk_more : (p : Params) (c e : Image) (left rest : List Place) (bands : List Learner) (q : Place) (b d : Learner)
+pub on_walk_more : (p : Params) (c e : Image) (left rest : List Place) (bands : List PredictorState) (q : Place) (b d : PredictorState)
     → IsOrder p.shape p.order → IsOnWalk p c left bands → left ≡ q ∷ rest → slice_get bands q.z ≡ Some b → MovesOn b d → Follows p d e
-    → ((z : ℕ) (f : Learner) → z < p.shape.bands → z ≢ q.z → IsAlong p c (gone_count p left) z f → Follows p f e) → IsOnWalk p e rest (set bands q.z d)
+    → ((z : ℕ) (f : PredictorState) → z < p.shape.bands → z ≢ q.z → IsAlong p c (gone_count p left) z f → Follows p f e) → IsOnWalk p e rest (set bands q.z d)
 on_walk_more p c e left rest bands q b d lawful walk is band moves follows others =
     let next = next_goes p q left rest lawful walk.rest is in record {
       rest = next.others;
@@ -160,7 +160,7 @@ on_walk_more p c e left rest bands q b d lawful walk is band moves follows other
           (along_more p c e (gone_count p left) bands q b d lawful walk.along next.stands band moves follows others);
     }
 
-pub on_walk_first : (p : Params) (c : Image) (bands : List Learner) → IsOrder p.shape p.order → length bands ≡ p.shape.bands → AreAlong p c 0 bands
+pub on_walk_first : (p : Params) (c : Image) (bands : List PredictorState) → IsOrder p.shape p.order → length bands ≡ p.shape.bands → AreAlong p c 0 bands
     → IsOnWalk p c (places p.shape p.order) bands
 on_walk_first p c bands lawful many along =
     let none : gone_count p (places p.shape p.order) ≡ 0 = omega (arith, length-places p.shape p.order lawful) in

@@ -10,7 +10,7 @@ use Rattle.sample_prediction.specs.Prediction.{weight_vector}
 use Rattle.sample_prediction.specs.Residual.{run_residuals}
 
 -- the state of a band's predictor: its parameters, the raster index t of its next place, the weights W(t), and the mapped residuals of the last piece
-pub record Learner : Type 0 where
+pub record PredictorState : Type 0 where
   pub predictor : Predictor
   pub shape : Sizes
   pub kind : SampleKind
@@ -20,18 +20,18 @@ pub record Learner : Type 0 where
   pub piece : List ℕ
 
 -- the predictor has these parameters
-pub record IsMadeFor (p : Params) (b : Learner) : Type 0 where
+pub record IsMadeFor (p : Params) (b : PredictorState) : Type 0 where
   pub predictor : b.predictor ≡ predictor_of p
   pub shape : b.shape ≡ p.shape
   pub kind : b.kind ≡ p.kind
 
 -- the predictor's weights are W(t) of the image at its next place
-pub record Follows (p : Params) (b : Learner) (c : Image) : Type 0 where
+pub record Follows (p : Params) (b : PredictorState) (c : Image) : Type 0 where
   pub made : IsMadeFor p b
   pub weights : b.weights ≡ weight_vector p c b.band b.t
 
 -- the same predictor, one place further on
-pub record MovesOn (old new : Learner) : Type 0 where
+pub record MovesOn (old new : PredictorState) : Type 0 where
   pub predictor : new.predictor ≡ old.predictor
   pub shape : new.shape ≡ old.shape
   pub kind : new.kind ≡ old.kind
@@ -39,7 +39,7 @@ pub record MovesOn (old new : Learner) : Type 0 where
   pub t : new.t ≡ old.t + 1
 
 -- the same predictor, n places further on
-pub record MovesBy (n : ℕ) (old new : Learner) : Type 0 where
+pub record MovesBy (n : ℕ) (old new : PredictorState) : Type 0 where
   pub predictor : new.predictor ≡ old.predictor
   pub shape : new.shape ≡ old.shape
   pub kind : new.kind ≡ old.kind
@@ -47,7 +47,7 @@ pub record MovesBy (n : ℕ) (old new : Learner) : Type 0 where
   pub t : new.t ≡ old.t + n
 
 -- the predictor's next n places, at most 64, are those from row y, column x on, all in that row; the image has the predictor's shape and kind
-pub record IsPieceNext (b : Learner) (c : Image) (y x n : ℕ) : Type 0 where
+pub record IsPieceNext (b : PredictorState) (c : Image) (y x n : ℕ) : Type 0 where
   pub shape : c.shape ≡ b.shape
   pub kind : c.kind ≡ b.kind
   pub place : IsPlace c.shape b.band y x
@@ -56,7 +56,7 @@ pub record IsPieceNext (b : Learner) (c : Image) (y x n : ℕ) : Type 0 where
   pub next : b.t ≡ y * c.shape.columns + x
 
 -- a band's predictor has advanced over n places, and holds their mapped residuals
-pub record HoldsPiece (c : Image) (n : ℕ) (old new : Learner) : Type 0 where
+pub record HoldsPiece (c : Image) (n : ℕ) (old new : PredictorState) : Type 0 where
   pub moved : MovesBy n old new
   pub bound : (i : ℕ) → i < n → slice_index_or new.piece i 0 < 2 ^ c.kind.bits
   pub residuals : (p : Params) → Follows p old c → take n new.piece ≡ run_residuals p c old.band old.t n

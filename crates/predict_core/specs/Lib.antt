@@ -2,7 +2,7 @@ pub mod Cubes
 pub mod Following
 pub mod OpenPart
 pub mod Largest
-pub mod Learner
+pub mod PredictorStates
 pub mod Precedence
 pub mod Rooms
 pub mod RunPlaces

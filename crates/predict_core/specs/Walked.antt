@@ -4,19 +4,19 @@ use Rattle.cube_core.specs.declared.order.Place.{Place}
 use Rattle.cube_core.specs.Image.{Image}
 use Rattle.cube_core.specs.Along.{HasCome}
 use Rattle.header_bits.specs.declared.params.Params.{Params}
-use Rattle.predict_core.specs.Following.{Learner, Follows}
+use Rattle.predict_core.specs.Following.{PredictorState, Follows}
 use Rattle.sample_prediction.specs.Residual.{mapped_residual}
 
 -- the predictor of band z follows the cube, and has advanced over the band's places among the first i in encoding order
-pub record IsAlong (p : Params) (c : Image) (i z : ℕ) (b : Learner) : Type 0 where
+pub record IsAlong (p : Params) (c : Image) (i z : ℕ) (b : PredictorState) : Type 0 where
   pub band : b.band ≡ z
   pub inside : b.t ≤ p.shape.rows * p.shape.columns
   pub follows : Follows p b c
   pub come : HasCome p.shape p.order z i b.t
 
 -- the predictors of all bands do
-abbrev pub AreAlong : Params → Image → ℕ → List Learner → Type 0
-AreAlong p c i bands = (z : ℕ) → z < p.shape.bands → (b : Learner) → slice_get bands z ≡ Some b → IsAlong p c i z b
+abbrev pub AreAlong : Params → Image → ℕ → List PredictorState → Type 0
+AreAlong p c i bands = (z : ℕ) → z < p.shape.bands → (b : PredictorState) → slice_get bands z ≡ Some b → IsAlong p c i z b
 
 -- the mapped residuals at places
 abbrev pub residuals_at : Params → Image → List Place → List ℕ

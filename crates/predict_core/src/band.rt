@@ -19,12 +19,12 @@ use cube_core::fault::Fault;
 use cube_core::shape::Shape;
 use header_bits::params::Params;
 use sample_prediction::predictor::{MOST_COMPONENTS, Predictor};
-use sample_prediction::range::Range;
+use sample_prediction::sample_limits::SampleLimits;
 use sample_prediction::start::start_of;
 use std::alloc::Global;
 use std::marker::Model;
 
-/// The predictor of one band: what it has learned from the samples so far, and its next place.
+/// The predictor of one band: its weights after the samples so far, and its next place.
 ///
 /// It allocates nothing, and reads of a cube only its own band and the previous bands that its parameters use.
 /// Calls for different bands are independent.
@@ -39,10 +39,10 @@ pub struct Band {
 
 impl Model for Band {
     ghost use Rattle.std.specs.Prelude.{take};
-    ghost use Rattle.predict_core.specs.Following.{Learner};
-    ghost use Rattle.predict_core.specs.Learner.{IsLearner};
+    ghost use Rattle.predict_core.specs.Following.{PredictorState};
+    ghost use Rattle.predict_core.specs.PredictorStates.{IsPredictorState};
 
-    ghost Value = { Learner };
+    ghost Value = { PredictorState };
 
     ghost view = { λ b. record {
       predictor = b.settings.predictor;
@@ -54,7 +54,7 @@ impl Model for Band {
       piece = b.piece;
     } };
 
-    ghost invariant = { λ b. IsLearner b.settings b.shape b.weights };
+    ghost invariant = { λ b. IsPredictorState b.settings b.shape b.weights };
 }
 
 impl Band {
@@ -75,7 +75,7 @@ impl Band {
         let _rows = params.shape.rows();
         let settings = Settings {
             predictor,
-            range: Range::of(params.kind),
+            range: SampleLimits::of(params.kind),
             columns: params.shape.columns(),
             band: z,
             near: previous,

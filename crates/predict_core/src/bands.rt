@@ -4,7 +4,7 @@ ghost use Rattle.std.specs.Prelude.{◌≡◌, ℕ, Some, slice_get, vec_len, If
 ghost use Rattle.cube_core.specs.declared.fault.Fault.TheVariants.{WantOfMemory};
 ghost use Rattle.cube_core.specs.Image.{Image};
 ghost use Rattle.header_bits.specs.Lawful.{IsLawful};
-ghost use Rattle.predict_core.specs.Following.{Learner};
+ghost use Rattle.predict_core.specs.Following.{PredictorState};
 ghost use Rattle.predict_core.specs.Walked.{AreAlong};
 
 use crate::band::Band;
@@ -18,7 +18,7 @@ pub fn all_bands(alloc: Global, params: &Params) -> Result<Vec<Band>, Fault>
     requires { IsLawful params.now }
     ensures len { IfOk result (λ bands. vec_len bands ≡ params.now.shape.bands) }
     ensures along { IfOk result (λ bands. (c : Image) → AreAlong params.now c 0 bands.items) }
-    ensures first { IfOk result (λ bands. (z : ℕ) (b : Learner) → slice_get bands.items z ≡ Some b → b.t ≡ 0) }
+    ensures first { IfOk result (λ bands. (z : ℕ) (b : PredictorState) → slice_get bands.items z ≡ Some b → b.t ≡ 0) }
     ensures refused { IfErr result (λ e. e ≡ WantOfMemory) }
 {
     let mut bands = Vec::new(alloc);

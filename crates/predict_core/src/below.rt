@@ -1,7 +1,7 @@
-//! The central differences of the bands below, in quads of four components.
+//! The central differences of the previous bands, in quads of four components.
 //!
-//! A quad takes the lines of four bands. After the last band that is used come the differences of empty lines,
-//! which are 0.
+//! A quad is computed from the lines of four bands. After the last band that is used come empty lines, whose
+//! differences are 0.
 
 ghost use Rattle.std.specs.Prelude.{◌≡◌, ◌+◌, ◌-◌, ◌*◌, ◌<◌, ◌≤◌, ◌||◌, ◌==◌, ℕ, [], ◌++◌, replicate, slice_index_or};
 ghost use Rattle.cube_core.specs.Image.{IsPlace};
@@ -69,7 +69,7 @@ fn fill_lower(
     }
 }
 
-/// Does the same where three or all four of them are used.
+/// `fill_lower` if at least three of the bands are used.
 fn fill_next_four(
     settings: &Settings,
     cube: &Cube,
@@ -100,7 +100,7 @@ fn fill_next_four(
     fill_four(column, &first, &second, &third, &fourth, &mut quad.places);
 }
 
-/// Does the same where at most two of them are used, with less work for each place.
+/// `fill_lower` if at most two of the bands are used, with less work for each place.
 fn fill_last_two(
     settings: &Settings,
     cube: &Cube,
@@ -128,7 +128,7 @@ fn fill_last_two(
     fill_two(column, &first, &second, &mut quad.places);
 }
 
-/// Writes the lines of the band that is `below` bands below; where there is none to use, empty lines stay
+/// Writes the lines of the band that is `below` bands below; if that band isn't used, empty lines stay
 /// empty.
 pub(crate) fn fill_below(
     settings: &Settings,

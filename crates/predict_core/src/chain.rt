@@ -22,9 +22,9 @@ use crate::settings::Settings;
 use cube_core::cube::Cube;
 use sample_prediction::prediction::predicted_difference;
 use sample_prediction::predictor::MOST_COMPONENTS;
-use sample_prediction::weights::{form_of, update_by};
+use sample_prediction::weights::{step_shift, update_by};
 
-/// What the steps of the weights have in common, over places with the same exponent.
+/// The parameters of the weight update that stay the same at places with one exponent.
 #[derive(Clone, Copy)]
 pub(crate) struct Steps {
     pub omega: u32,
@@ -60,7 +60,7 @@ fn follow<const N: usize>(
         differences,
         steps.omega,
         steps.exponent,
-        form_of(steps.bits, steps.exponent),
+        step_shift(steps.bits, steps.exponent),
         sign_mask_of_error(own, predicted),
     );
 }
@@ -171,8 +171,8 @@ fn follow_at<const N: usize, const WRAPS: bool>(
     predicted
 }
 
-/// A run whose samples are known, and what they tell of its places: the local sums of offsets, the central
-/// differences and the components.
+/// A run whose samples are known, with the local sums of offsets, the central differences and the components of its
+/// places.
 #[derive(Clone, Copy)]
 pub(crate) struct KnownRun<'a, const Q: usize> {
     pub settings: &'a Settings,
@@ -216,7 +216,7 @@ fn follow_place<const Q: usize, const N: usize, const WRAPS: bool>(
     );
 }
 
-/// What a band has at hand along a run: its weights, the predicted central differences of the run's places, and then
+/// A band's working state in a run: its weights, the predicted central differences of the run's places, and then
 /// their mapped residuals.
 #[derive(Drop)]
 pub(crate) struct RunState {

@@ -25,7 +25,7 @@ ghost use Rattle.predict_core.specs.Steps.{AreSteps};
 ghost use Rattle.sample_prediction.specs.Weights.{step_exponent};
 
 use crate::chain::differences_at;
-use crate::prediction::form_at;
+use crate::prediction::shift_at;
 use crate::room::Quad;
 use crate::settings::Settings;
 use crate::west::{put_west, sum_with_west};
@@ -34,9 +34,9 @@ use sample_prediction::differences::west_of;
 use sample_prediction::exponent::{exponent_at, places_alike};
 use sample_prediction::prediction::predicted_difference;
 use sample_prediction::predictor::MOST_COMPONENTS;
-use sample_prediction::range::Range;
 use sample_prediction::residual::{prediction_of, unmap_by_center};
-use sample_prediction::weights::{Form, update_by};
+use sample_prediction::sample_limits::SampleLimits;
+use sample_prediction::weights::{StepShift, update_by};
 
 /// A run below the first row whose samples aren't known yet: its first place, the local sums and components of its places as if
 /// each offset to the west were 0, the weights at its first place, and its mapped residuals.
@@ -97,7 +97,7 @@ pub(crate) fn invert_places<const Q: usize, const N: usize, const WRAPS: bool>(
     // A copy stays in registers.
     let settings = *run.settings;
     let mut stretch = Stretch {
-        form: Form::none(),
+        shift: StepShift::none(),
         end: 0,
     };
     let mut west = west_of(&cube, settings.band, y, x);
@@ -113,7 +113,7 @@ pub(crate) fn invert_places<const Q: usize, const N: usize, const WRAPS: bool>(
             column,
             sum,
             west,
-            stretch.form,
+            stretch.shift,
             &mut weights,
             &components,
             deltas[i],
@@ -124,14 +124,14 @@ pub(crate) fn invert_places<const Q: usize, const N: usize, const WRAPS: bool>(
     (cube, weights)
 }
 
-/// The form of the steps at places of a run, up to its place `end`.
+/// The shift of the steps at places of a run, up to its place `end`.
 #[derive(Clone, Copy)]
 struct Stretch {
-    form: Form,
+    shift: StepShift,
     end: usize,
 }
 
-/// Returns the form of the steps at place `i` of a run of `count` places, and up to where it stays the same:
+/// Returns the shift of the steps at place `i` of a run of `count` places, and up to where it stays the same:
 /// the one before, while it holds.
 #[inline(always)]
 fn stretch_at(
@@ -146,11 +146,11 @@ fn stretch_at(
     requires here { i < count }
     requires inside { x + count ≤ settings.now.columns }
     requires before { (k : ℕ) → i ≤ k → k < before.end
-        → AreSteps before.form settings.now.range.bits (step_exponent settings.now.predictor settings.now.columns settings.now.range.bits
+        → AreSteps before.shift settings.now.range.bits (step_exponent settings.now.predictor settings.now.columns settings.now.range.bits
         (y * settings.now.columns + (x + k))) }
     ensures some { i < result.end }
     ensures steps { (k : ℕ) → i ≤ k → k < result.end
-        → AreSteps result.form settings.now.range.bits (step_exponent settings.now.predictor settings.now.columns settings.now.range.bits
+        → AreSteps result.shift settings.now.range.bits (step_exponent settings.now.predictor settings.now.columns settings.now.range.bits
         (y * settings.now.columns + (x + k))) }
 {
     if i < before.end {
@@ -160,7 +160,7 @@ fn stretch_at(
     }
 }
 
-/// Returns the form of the steps at place `i` of a run of `count` places, and up to where it stays the same.
+/// Returns the shift of the steps at place `i` of a run of `count` places, and up to where it stays the same.
 #[cold]
 fn next_stretch(settings: &Settings, y: u32, x: u32, i: usize, count: usize) -> Stretch
     requires row { y < 65536 }
@@ -168,21 +168,21 @@ fn next_stretch(settings: &Settings, y: u32, x: u32, i: usize, count: usize) -> 
     requires inside { x + count ≤ settings.now.columns }
     ensures some { i < result.end }
     ensures steps { (k : ℕ) → i ≤ k → k < result.end
-        → AreSteps result.form settings.now.range.bits (step_exponent settings.now.predictor settings.now.columns settings.now.range.bits
+        → AreSteps result.shift settings.now.range.bits (step_exponent settings.now.predictor settings.now.columns settings.now.range.bits
         (y * settings.now.columns + (x + k))) }
 {
     let column = x + i as u32;
     let t = y as u64 * settings.columns as u64 + column as u64;
     let alike = places_alike(&settings.predictor, settings.columns, t, count - i);
     Stretch {
-        form: form_at(settings, y, column),
+        shift: shift_at(settings, y, column),
         end: i + alike,
     }
 }
 
 /// Returns the sample of a mapped residual at a place below the first row, and updates the weights.
 ///
-/// `sum` is the local sum of the offsets there, `west` the offset to the west, and `form` the form of the steps.
+/// `sum` is the local sum of the offsets there, `west` the offset to the west, and `shift` that of the steps.
 /// `components` are those of the place as if that offset were 0.
 #[inline(always)]
 fn sample_there<const N: usize, const WRAPS: bool>(
@@ -192,7 +192,7 @@ fn sample_there<const N: usize, const WRAPS: bool>(
     x: u32,
     sum: u32,
     west: u16,
-    form: Form,
+    shift: StepShift,
     weights: &mut [i32; MOST_COMPONENTS],
     components: &[i32; MOST_COMPONENTS],
     delta: u16,
@@ -213,7 +213,7 @@ fn sample_there<const N: usize, const WRAPS: bool>(
     requires lower { drop (if settings.now.predictor.reduced then 0 else 3) components.now ≡ spectral_differences settings.now.predictor cube.now
         settings.now.band y x (previous_bands settings.now.predictor settings.now.band) ++ replicate (18 - settings.now.count) (pos 0) }
     requires residual { delta < 2 ^ cube.now.kind.bits }
-    requires steps { AreSteps form cube.now.kind.bits (step_exponent settings.now.predictor cube.now.shape.columns cube.now.kind.bits
+    requires steps { AreSteps shift cube.now.kind.bits (step_exponent settings.now.predictor cube.now.shape.columns cube.now.kind.bits
         (y * cube.now.shape.columns + x)) }
     ensures range { IsSample cube.now.kind result }
     ensures inverse { mapped cube.now.kind (scaled_there settings.now.predictor (put cube.now settings.now.band y x result) settings.now.band y x
@@ -231,14 +231,14 @@ fn sample_there<const N: usize, const WRAPS: bool>(
     let whole = 4 * range.smin + sum as i32;
     let part = predicted_difference::<N, WRAPS>(predictor, range, whole, weights, &differences);
     let found = sample_by_part(range, part, sum, delta);
-    // The exponent is for proofs: the form tells all of it.
+    // Only the proof needs the exponent: the shift holds all of it.
     let exponent = exponent_at(predictor, settings.columns, range.bits, t);
     update_by::<N>(
         weights,
         &differences,
         predictor.omega,
         exponent,
-        form,
+        shift,
         found.1,
     );
     found.0
@@ -249,7 +249,7 @@ fn sample_there<const N: usize, const WRAPS: bool>(
 ///
 /// Both are computed from its offset, whose least value is 0, so that the ends of the range cost nothing.
 #[inline(always)]
-fn sample_by_part(range: &Range, part: i32, sum: u32, delta: u16) -> (i32, i32)
+fn sample_by_part(range: &SampleLimits, part: i32, sum: u32, delta: u16) -> (i32, i32)
     requires part_in { unsigned_abs part ≤ 18 * 2 ^ 20 }
     requires sum_in { sum ≤ 262140 }
     requires residual { delta < 2 ^ range.now.kind.bits }
@@ -278,7 +278,7 @@ fn center_of(part: i32, sum: u32) -> i32
 
 /// Returns how far a sample is above the least one.
 #[inline(always)]
-fn offset_of(range: &Range, sample: i32) -> u16
+fn offset_of(range: &SampleLimits, sample: i32) -> u16
     requires { IsSample range.now.kind sample }
     ensures { sample ≡ smin range.now.kind +ℤ pos result }
 {

@@ -17,7 +17,7 @@ use crate::settings::Settings;
 use cube_core::cube::Cube;
 use sample_prediction::predictor::MOST_COMPONENTS;
 
-/// Finds the mapped residuals of a run of `count` places, and updates the weights; with `PAIR` also those of the same
+/// Computes the mapped residuals of a run of `count` places, and updates the weights; with `PAIR` also those of the same
 /// places of another band, which uses as many weights.
 pub(crate) fn predict_run<const PAIR: bool>(
     cube: &Cube,
@@ -43,7 +43,7 @@ pub(crate) fn predict_run<const PAIR: bool>(
     }
 }
 
-/// Does the same. `WRAPS` may be false only where nothing wraps in the register.
+/// `predict_run` for a register that may wrap (`WRAPS`) or has 46 bits or more and never does.
 ///
 /// The number of weights is found once, so that the compiler knows it in the loops over places.
 fn predict_in<const WRAPS: bool, const PAIR: bool>(
@@ -81,7 +81,7 @@ fn predict_in<const WRAPS: bool, const PAIR: bool>(
     }
 }
 
-/// Does the same with `N` weights, whose differences take `Q` quads.
+/// `predict_in` with `N` weights, whose differences take `Q` quads.
 ///
 /// What depends on the samples alone is computed first, for all places at once; then the predicted differences,
 /// one after another; and then all residuals at once.

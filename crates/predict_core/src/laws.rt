@@ -17,12 +17,12 @@ pub fn places_precede()
     ensures { PlacesPrecede }
 {}
 
-/// What the register takes, before it wraps, is below 2^45 with either sign.
+/// The number that goes into the register has an absolute value below 2^45.
 pub fn register_bound()
     ensures { RegisterBound }
 {}
 
-/// A predicted central difference, without the fraction of the weights, is at most 18·2^20 with either sign.
+/// A predicted central difference has an absolute value of at most 18·2^20.
 pub fn difference_bound()
     ensures { DifferenceBound }
 {}

@@ -85,8 +85,8 @@ pub(crate) fn fill_line_above(
 /// Writes the neighbours of `count` places of a row from column `x` on: to `current` those in the row itself,
 /// and to `upper` those in the row above.
 ///
-/// Where a place has no neighbour, a substitute makes the sum of all four right. In the first row, where the
-/// sum is of the western neighbours alone, these are written above their places
+/// If a place has no such neighbour, a substitute makes the sum of all four the local sum. In the first row, where the
+/// local sum is that of the western neighbour alone, the western neighbours are written above their places
 /// (CCSDS 123.0-B-1, "Local Sums").
 fn fill_lines(
     column: bool,
@@ -133,7 +133,7 @@ fn fill_line(row: &[u16], x: usize, count: usize, before: u16, after: u16, line:
 
 /// Writes a whole line of a row where the row continues at both sides of it, as it mostly does.
 ///
-/// In parts of this length a copy is a few vector moves instead of a call.
+/// A copy of this fixed length is a few vector moves instead of a call.
 #[inline(always)]
 fn copy_line(row: &[u16], x: usize, line: &mut [u16; 66])
     requires begun { 1 ≤ x }
@@ -152,7 +152,7 @@ fn copy_places(row: &[u16], x: usize, count: usize, line: &mut [u16; 66])
     ensures { (k : ℕ) → k < count → slice_index line.new (k + 1) ≡ slice_index row.now (x + k) }
 {
     if count == 64 {
-        // So many are a few moves of vectors in place of a call.
+        // A copy of this fixed length is a few vector moves instead of a call.
         line[1..65].copy_from_slice(&row[x..x + 64]);
     } else {
         line[1..count + 1].copy_from_slice(&row[x..x + count]);
@@ -195,7 +195,7 @@ pub(crate) fn sum_of_lines(column: bool, current: &[u16; 66], upper: &[u16; 66],
     }
 }
 
-/// Returns the same of the line above alone, as if the offset to the west were 0.
+/// The same from the line above alone, as if the offset to the west were 0.
 #[inline(always)]
 pub(crate) fn sum_above(column: bool, above: &[u16; 66], i: usize) -> u32
     requires { i < 64 }

@@ -20,8 +20,8 @@ use sample_prediction::residual::prediction_of;
 
 /// Writes the mapped residuals of a run of places from row `y`, column `x` on, as many as there is room for.
 ///
-/// `parts` are the predicted differences, and `sums` the local sums of offsets. What is written for the first
-/// place of a band is not its residual (CCSDS 123.0-B-1, "Mapped Prediction Residual").
+/// `parts` are the predicted central differences, and `sums` the local sums of offsets. What is written for the first
+/// place of a band isn't its residual (CCSDS 123.0-B-1, "Mapped Prediction Residual").
 pub(crate) fn map_run(
     settings: &Settings,
     cube: &Cube,
@@ -67,14 +67,14 @@ fn copy_offsets(row: &[u16], x: usize, count: usize, offsets: &mut [u16; 64])
     ensures rest { (k : ℕ) → count ≤ k → slice_index offsets.new k ≡ 0 }
 {
     if count == 64 {
-        // So many are a few moves of vectors in place of a call.
+        // A copy of this fixed length is a few vector moves instead of a call.
         offsets.copy_from_slice(&row[x..x + 64]);
     } else {
         offsets[..count].copy_from_slice(&row[x..x + count]);
     }
 }
 
-/// Writes the number of each place's offset.
+/// Writes the mapped residual of each place's offset.
 fn map_places(
     greatest: i32,
     parts: &[i32; 64],
@@ -94,7 +94,7 @@ fn map_places(
     }
 }
 
-/// Returns the number of an offset, from the predicted difference and the local sum of offsets.
+/// Returns the mapped residual of an offset, from the predicted central difference and the local sum of offsets.
 #[inline(always)]
 fn number_of_offset(greatest: i32, part: i32, sum: i32, offset: u16) -> u16
     requires greatest_in { (pos 1 ≤ℤ greatest) × (greatest ≤ℤ pos 65535) }
@@ -119,7 +119,7 @@ pub(crate) fn scaled_offset(greatest: i32, part: i32, sum: i32) -> i32
     upper.min(2 * greatest + 1).max(0)
 }
 
-/// Returns the number of an offset by its scaled prediction.
+/// Returns the mapped residual of an offset, from its scaled prediction.
 #[inline(always)]
 fn number_at(greatest: i32, twice: i32, offset: i32) -> i32
     requires greatest_in { (pos 1 ≤ℤ greatest) × (greatest ≤ℤ pos 65535) }
@@ -155,7 +155,7 @@ fn nearer(greatest: i32, value: i32) -> i32
     value.min(greatest - value)
 }
 
-/// Returns the number of an error where both signs alternate, from twice the error less the parity.
+/// Returns the mapped residual of a prediction residual whose two signs alternate, from twice the latter less the parity.
 #[inline(always)]
 fn alternating_number(twice: i32) -> i32
     requires { unsigned_abs twice ≤ 2 ^ 18 }

@@ -1,4 +1,4 @@
-//! A piece of a row: places that a band's predictor has gone over, and their residuals, which it holds.
+//! Advancing a band's predictor by a piece of a row, whose mapped residuals it holds.
 
 ghost use Rattle.std.specs.Prelude.{◌≡◌, ◌<◌, ◌≤◌, take, length, slice_index_or};
 ghost use Rattle.predict_core.specs.Following.{IsPieceNext, HoldsPiece};
@@ -10,7 +10,7 @@ use crate::run::LEAST;
 use cube_core::cube::Cube;
 
 impl Band {
-    /// Goes over the next `count` places of a row, and holds their mapped residuals until the next piece.
+    /// Advances by `count` places of a row, and holds their mapped residuals until the next piece.
     ///
     /// `count` is at most 64. The first of these places is the next one, row `y`, column `x`, and all of them
     /// are in that row. The cube has the shape and kind of the parameters. Each residual is at most 2^D - 1
@@ -24,13 +24,13 @@ impl Band {
         self.piece = piece;
     }
 
-    /// Goes over the next `count` places of a row, and has another band go over the same places of its own; each
+    /// Advances by `count` places of a row, and another band's predictor by the same places of its band; each
     /// holds its mapped residuals until its next piece.
     ///
     /// `count` is at most 64. Both bands have the same parameters, and for each this does what `predict_piece` does.
     /// No place of one band waits for a place of the other, so the processor works on both at once, in less time than
     /// on one after the other (CCSDS 123.0-B-1, "Predictor"). Short pieces, and bands with different numbers of weights,
-    /// are gone over one after the other.
+    /// are predicted one after the other.
     pub fn predict_pieces(&mut self, other: &mut Band, cube: &Cube, y: u32, x: u32, count: usize)
         requires next { IsPieceNext self.old cube.now y x count }
         requires other_next { IsPieceNext other.old cube.now y x count }

@@ -1,4 +1,4 @@
-//! The prediction of one sample, and what is learnt from it: one step of a band's predictor.
+//! The prediction of one sample and the weight update after it: one step of a band's predictor.
 
 ghost use Rattle.std.specs.Prelude.{◌≡◌, ◌+◌, ◌-◌, ◌*◌, ◌^◌, ◌<◌, pos, negsuc, ◌-ℤ◌, ◌*ℤ◌, ◌≤ℤ◌, int_lt, take, ◌++◌, replicate, ℤ, List, length};
 ghost use Rattle.cube_core.specs.Image.{IsPlace};
@@ -16,7 +16,7 @@ use sample_prediction::differences::{fill_differences, sum_at};
 use sample_prediction::exponent::exponent_at;
 use sample_prediction::prediction::scaled_by;
 use sample_prediction::predictor::MOST_COMPONENTS;
-use sample_prediction::weights::{Form, form_of, update};
+use sample_prediction::weights::{StepShift, step_shift, update};
 
 /// The prediction at a place, and the differences that it comes from.
 #[derive(Clone, Copy)]
@@ -129,9 +129,9 @@ pub(crate) fn learn(
     );
 }
 
-/// Returns the form of the steps after row `y`, column `x`, a place that is not the first of its band.
+/// Returns the shift of the steps after row `y`, column `x`, a place that is not the first of its band.
 #[inline(always)]
-pub(crate) fn form_at(settings: &Settings, y: u32, x: u32) -> Form
+pub(crate) fn shift_at(settings: &Settings, y: u32, x: u32) -> StepShift
     requires row { y < 65536 }
     requires column { x < settings.now.columns }
     ensures { AreSteps result settings.now.range.bits (step_exponent settings.now.predictor settings.now.columns settings.now.range.bits
@@ -139,7 +139,7 @@ pub(crate) fn form_at(settings: &Settings, y: u32, x: u32) -> Form
 {
     let bits = settings.range.bits;
     let t = u64::from(y) * u64::from(settings.columns) + u64::from(x);
-    form_of(
+    step_shift(
         bits,
         exponent_at(&settings.predictor, settings.columns, bits, t),
     )

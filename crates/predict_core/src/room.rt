@@ -1,4 +1,4 @@
-//! The quantities of a run that depend on the samples alone, before a weight is known.
+//! The local sums and differences of a run, which depend on the samples alone and are computed before its weights are known.
 //!
 //! The components of a place are in quads of four, each written by one loop over all places.
 
@@ -66,10 +66,10 @@ pub(crate) fn fill_run<const Q: usize>(
     }
 }
 
-/// Writes what the row above and the bands below tell of `count` places from row `y`, column `x` on: the local sums of
-/// offsets and the components as if each offset to the west were 0.
+/// Writes the local sums of offsets and the components of `count` places from row `y`, column `x` on, as if each offset to
+/// the west were 0: they depend on the row above and the previous bands alone.
 ///
-/// The row is below the first one. It is all written where `fill_run` writes it.
+/// The row is below the first one. The results are laid out as those of `fill_run`.
 pub(crate) fn fill_open_part<const Q: usize>(
     settings: &Settings,
     cube: &Cube,
@@ -108,7 +108,7 @@ pub(crate) fn fill_open_part<const Q: usize>(
     }
 }
 
-/// Writes the northern difference of the first place in place of the one to the north-west.
+/// Replaces the north-western difference of the first place by the northern one.
 fn put_north_first(out: &mut [[i32; 4]; 64])
     ensures first { (north west north_west below : ℤ) → slice_index_or out.old 0 [] ≡ north ∷ west ∷ north_west ∷ below ∷ []
         → slice_index_or out.new 0 [] ≡ north ∷ west ∷ north ∷ below ∷ [] }
@@ -165,7 +165,7 @@ fn fill_first(
     }
 }
 
-/// Writes the northern difference of the first place in place of the other two directions.
+/// Replaces the other two directional differences of the first place by the northern one.
 fn repeat_north(out: &mut [[i32; 4]; 64])
     ensures first { (north west north_west below : ℤ) → slice_index_or out.old 0 [] ≡ north ∷ west ∷ north_west ∷ below ∷ []
         → slice_index_or out.new 0 [] ≡ north ∷ north ∷ north ∷ below ∷ [] }

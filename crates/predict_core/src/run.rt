@@ -44,14 +44,14 @@ impl Band {
         self.next += count as u64;
         let settings = &self.settings;
         let mut state = RunState::new(self.weights);
-        // No other band goes beside it.
+        // There is one band: the state of a second one is unused.
         let mut none = RunState::new(self.weights);
         predict_run::<false>(cube, y, x, count, settings, &mut state, settings, &mut none);
         self.weights = state.weights;
         residuals.copy_from_slice(&state.residuals[..count]);
     }
 
-    /// Does the same, one place after another.
+    /// `forward_run`, one place after another.
     fn forward_each(&mut self, cube: &Cube, y: u32, x: u32, residuals: &mut [u16])
         requires shape { cube.now.shape ≡ self.old.shape }
         requires kind { cube.now.kind ≡ self.old.kind }

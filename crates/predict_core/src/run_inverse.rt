@@ -58,7 +58,7 @@ impl Band {
         }
     }
 
-    /// Does the same, one place after another.
+    /// `inverse_run`, one place after another.
     // Kept out of `inverse_run`, it leaves the registers to `invert_run`.
     #[inline(never)]
     fn inverse_each(&mut self, cube: &mut Cube, y: u32, x: u32, deltas: &[u16])
@@ -77,7 +77,7 @@ impl Band {
         ensures follows { (p : Parameters) → Follows p self.old cube.old → Follows p self.new cube.new }
     {
         cube.prove_is_cube();
-        // That its columns are the cube's is a fact for proofs.
+        // Only the proof needs this: the columns are the cube's.
         let _columns = self.settings.columns;
         for i in 0..deltas.len() {
             let column = x + i as u32;
@@ -106,8 +106,8 @@ impl Band {
     }
 }
 
-/// Writes the samples of a run below the first row, and updates the weights. `WRAPS` may be false only where nothing wraps in the
-/// register.
+/// Writes the samples of a run below the first row, and updates the weights. `WRAPS` may be false only if the register has 46 bits
+/// or more and so never wraps.
 ///
 /// The number of weights is found once, so that the compiler knows it in the loop over places.
 fn invert_run<const WRAPS: bool>(
@@ -152,10 +152,10 @@ fn invert_run<const WRAPS: bool>(
     }
 }
 
-/// Does the same with `N` weights, whose differences take `Q` quads.
+/// `invert_run` with `N` weights, whose differences take `Q` quads.
 ///
-/// What the row above and the bands below tell is computed first, for all places at once. Each place then waits for
-/// the sample to the west.
+/// What depends on the row above and the previous bands alone is computed first, for all places at once. Each place then waits
+/// for the sample to the west.
 // One for each number of weights, so that each keeps its registers.
 #[inline(never)]
 fn invert_by<const Q: usize, const N: usize, const WRAPS: bool>(

@@ -1,4 +1,4 @@
-//! What a band's predictor computes once for all its samples.
+//! The constants of a band's predictor, computed once for all its samples.
 
 ghost use Rattle.std.specs.Prelude.{◌≡◌, ◌≤◌, false};
 ghost use Rattle.cube_core.specs.Shape.{InRange};
@@ -8,20 +8,20 @@ ghost use Rattle.predict_core.specs.OpenPart.{AreWestMasks};
 
 use crate::west::WestMasks;
 use sample_prediction::predictor::Predictor;
-use sample_prediction::range::Range;
+use sample_prediction::sample_limits::SampleLimits;
 
-/// The parameters of a band's predictor, and what follows from them for all its samples.
+/// The parameters of a band's predictor, and the constants that follow from them.
 #[derive(Clone, Copy)]
 pub(crate) struct Settings {
     pub predictor: Predictor,
-    pub range: Range,
+    pub range: SampleLimits,
     pub columns: u32,
     pub band: u32,
-    /// How many bands below are used.
+    /// The number of previous bands that are used.
     pub near: usize,
-    /// How many weights are in use.
+    /// The number of weights in use.
     pub count: usize,
-    /// Where the offset to the west is added.
+    /// The masks with which the offset to the west is added.
     pub west: WestMasks,
     pub ghost lawful: { IsPredictor predictor },
     pub ghost columns_in: { InRange 1 65536 columns },

@@ -1,6 +1,6 @@
-//! What the sample to the west adds to the local sum and the directional differences of a place below the first row.
+//! The part of the local sum and the directional differences of a place below the first row that the sample to the west adds.
 //!
-//! The row above tells all the rest of them, so that it is computed for a whole run at once.
+//! The rest of them depends on the row above alone, so that it is computed for a whole run at once.
 
 ghost use Rattle.std.specs.Prelude.{◌≡◌, ◌+◌, ◌-◌, ◌<◌, ◌≤◌, pos, negsuc, ◌+ℤ◌, ◌-ℤ◌, ◌*ℤ◌, ◌≤ℤ◌, int_lt, if◌then◌else◌, take, drop};
 ghost use Rattle.std.specs.Prelude.{◌++◌, true, false, FitsSigned};
@@ -23,11 +23,11 @@ use sample_prediction::predictor::MOST_COMPONENTS;
 /// one vector.
 #[derive(Clone, Copy)]
 pub(crate) struct WestMasks {
-    /// Whether the local sum has the offset.
+    /// Whether the offset is a part of the local sum.
     pub sum: i32,
-    /// Of which components it is taken away once, as a part of the local sum.
+    /// The components from which the offset is subtracted, as a part of the local sum.
     pub once: Lanes,
-    /// To which four times the offset is added: the difference of the neighbour to the west.
+    /// The component to which four times the offset is added: that of the western neighbour.
     pub four: Lanes,
 }
 
@@ -41,7 +41,7 @@ pub(crate) struct Lanes {
 }
 
 impl WestMasks {
-    /// Returns those of a mode and a kind of local sums.
+    /// Returns the masks of a prediction mode and a kind of local sums.
     pub(crate) fn of(reduced: bool, column: bool) -> WestMasks
         ensures { AreWestMasks reduced column result }
     {
@@ -123,7 +123,7 @@ pub(crate) fn put_west(
     components[3] = below;
 }
 
-/// Returns a component with the offset to the west: less the offset and plus four times it, each where its mask is
+/// Returns a component with the offset to the west: less the offset, and plus four times the offset, each if its mask is
 /// all ones.
 #[inline(always)]
 fn with_west(part: i32, west: i32, once: i32, four: i32) -> i32
@@ -136,7 +136,7 @@ fn with_west(part: i32, west: i32, once: i32, four: i32) -> i32
     part + (masked(4 * west, four) - masked(west, once))
 }
 
-/// Returns a number where the mask is all ones, and 0 where it is 0.
+/// Returns the number if the mask is all ones, and 0 if it is 0.
 #[inline(always)]
 fn masked(number: i32, mask: i32) -> i32
     requires number_in { (pos 0 ≤ℤ number) × (number ≤ℤ pos 262140) }

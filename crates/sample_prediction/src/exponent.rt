@@ -72,7 +72,7 @@ pub fn places_alike(predictor: &Predictor, columns: u32, t: u64, most: usize) ->
     }
 }
 
-/// Does the same, for `t` counted from the second row.
+/// `places_alike` for `t` counted from the second row.
 fn alike_after(predictor: &Predictor, t: u64, most: usize) -> usize
     requires lawful { IsPredictor predictor.now }
     requires t_in { t < 2 ^ 32 }

@@ -28,7 +28,7 @@ pub fn sum_of(column: bool, y: u32, row: &[u16], above: &[u16], x: usize) -> u32
     }
 }
 
-/// Returns the same below the first row, where `west` is the offset to the west of a place that has one.
+/// `sum_of` below the first row; `west` is the offset to the west of a place that has one.
 #[inline(always)]
 pub fn sum_beside(column: bool, y: u32, row: &[u16], above: &[u16], x: usize, west: u16) -> u32
     requires inside { x < length row.now }
@@ -70,7 +70,7 @@ pub fn difference_of(offset: u16, sum: u32) -> i32
     4 * offset as i32 - sum as i32
 }
 
-/// Returns the central difference at a place, of which the same holds as for `sum_of`.
+/// Returns the central difference at a place, under the conditions of `sum_of`.
 #[inline(always)]
 pub fn central_of(column: bool, y: u32, row: &[u16], above: &[u16], x: usize) -> i32
     requires inside { x < length row.now }

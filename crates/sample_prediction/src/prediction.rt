@@ -10,8 +10,8 @@ ghost use Rattle.cube_core.specs.Kind.{smin, smid, smax};
 ghost use Rattle.sample_prediction.specs.Bounds.{AllWithin, IsPredictor};
 
 use crate::predictor::{MOST_COMPONENTS, Predictor};
-use crate::range::Range;
 use crate::register::{floor_shift, register_of, wrapped_value};
+use crate::sample_limits::SampleLimits;
 use crate::weights::{product_of, product_of_first};
 
 /// Returns the scaled predicted sample value, from the local sum, the weights and the differences.
@@ -21,7 +21,7 @@ use crate::weights::{product_of, product_of_first};
 #[inline(always)]
 pub fn scaled_by(
     predictor: &Predictor,
-    range: &Range,
+    range: &SampleLimits,
     count: usize,
     sum: i32,
     weights: &[i32; MOST_COMPONENTS],
@@ -40,9 +40,9 @@ pub fn scaled_by(
     scaled_by_product(predictor, range, sum, product)
 }
 
-/// Returns the same, from the sum of the products of weights and differences.
+/// Returns the scaled predicted sample value from the sum of the products of weights and differences.
 #[inline(always)]
-fn scaled_by_product(predictor: &Predictor, range: &Range, sum: i32, product: i64) -> i32
+fn scaled_by_product(predictor: &Predictor, range: &SampleLimits, sum: i32, product: i64) -> i32
     requires lawful { IsPredictor predictor.now }
     requires product_in { unsigned_abs product ≤ 2 ^ 44 }
     requires sum_in { (negsuc 131071 ≤ℤ sum) × (sum ≤ℤ pos 262140) }
@@ -67,7 +67,7 @@ fn scaled_by_product(predictor: &Predictor, range: &Range, sum: i32, product: i6
 #[inline(always)]
 pub fn predicted_difference<const N: usize, const WRAPS: bool>(
     predictor: &Predictor,
-    range: &Range,
+    range: &SampleLimits,
     sum: i32,
     weights: &[i32; MOST_COMPONENTS],
     differences: &[i32; MOST_COMPONENTS],
@@ -97,7 +97,7 @@ pub fn predicted_difference<const N: usize, const WRAPS: bool>(
 #[inline(always)]
 fn may_wrap<const WRAPS: bool>(
     predictor: &Predictor,
-    range: &Range,
+    range: &SampleLimits,
     sum: i32,
     product: i64,
     part: i32,
@@ -125,7 +125,7 @@ fn register_limit(predictor: &Predictor) -> u32
 
 /// Returns the predicted central difference where the register wraps, from the sum of the products.
 #[cold]
-fn wrapped_difference(predictor: &Predictor, range: &Range, sum: i32, product: i64) -> i32
+fn wrapped_difference(predictor: &Predictor, range: &SampleLimits, sum: i32, product: i64) -> i32
     requires lawful { IsPredictor predictor.now }
     requires product_in { unsigned_abs product ≤ 2 ^ 44 }
     requires sum_in { (negsuc 131071 ≤ℤ sum) × (sum ≤ℤ pos 262140) }

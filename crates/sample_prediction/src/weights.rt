@@ -119,81 +119,81 @@ fn update_first<const N: usize>(
     ensures bound { AllWithin (2 ^ (omega + 2)) weights.new }
 {
     if exponent < 0 {
-        let form = raising((-1 - exponent) as u32);
-        update_by::<N>(weights, differences, omega, exponent, form, sign_mask);
+        let shift = left_shift((-1 - exponent) as u32);
+        update_by::<N>(weights, differences, omega, exponent, shift, sign_mask);
     } else {
-        let form = halving(exponent as u32);
-        update_by::<N>(weights, differences, omega, exponent, form, sign_mask);
+        let shift = right_shift(exponent as u32);
+        update_by::<N>(weights, differences, omega, exponent, shift, sign_mask);
     }
 }
 
-/// How a difference becomes a step: it is shifted left by some bits, then a half is added, and it is shifted
-/// right by others.
+/// How a component becomes the step of its weight at one exponent ρ: it is shifted left, the rounding is added, and it is
+/// shifted right (CCSDS 123.0-B-1, "Weight Update").
 ///
-/// At an exponent below 0 nothing is shifted right, otherwise nothing is shifted left. So both kinds of
-/// exponents take one path, and a loop over places that finds the form beforehand has no branch.
+/// If ρ is below 0, nothing is shifted right, otherwise nothing is shifted left. So all exponents take one path, and a loop over
+/// places that finds the shift beforehand has no branch.
 #[derive(Clone, Copy)]
-pub struct Form {
-    up: u32,
-    half: i32,
-    down: u32,
-    ghost up_in: { up ≤ 22 },
-    ghost half_in: { (pos 0 ≤ℤ half) × (half ≤ℤ pos 2097152) },
-    ghost down_in: { down ≤ 22 },
+pub struct StepShift {
+    left: u32,
+    rounding: i32,
+    right: u32,
+    ghost left_in: { left ≤ 22 },
+    ghost rounding_in: { (pos 0 ≤ℤ rounding) × (rounding ≤ℤ pos 2097152) },
+    ghost right_in: { right ≤ 22 },
 }
 
-impl Form {
-    /// The form of no particular place.
-    pub fn none() -> Form {
-        raising(0)
+impl StepShift {
+    /// A placeholder, replaced before it is used.
+    pub fn none() -> StepShift {
+        left_shift(0)
     }
 }
 
-/// Returns the form of the steps at an exponent, for samples of `bits` bits.
+/// Returns the shift for steps at an exponent, for samples of `bits` bits.
 #[inline(always)]
-pub fn form_of(bits: u32, exponent: i32) -> Form
+pub fn step_shift(bits: u32, exponent: i32) -> StepShift
     requires bits_in { (2 ≤ bits) × (bits ≤ 16) }
     requires exponent_least { (pos bits -ℤ pos 25) ≤ℤ exponent }
     requires exponent_most { exponent ≤ℤ pos 21 }
-    ensures steps { (a : ℤ) → floor_div (a *ℤ pos (2 ^ result.up) +ℤ result.half) (2 ^ result.down) ≡ step exponent a }
-    ensures room { bits + result.up ≤ 24 }
+    ensures steps { (a : ℤ) → floor_div (a *ℤ pos (2 ^ result.left) +ℤ result.rounding) (2 ^ result.right) ≡ step exponent a }
+    ensures room { bits + result.left ≤ 24 }
 {
     if exponent < 0 {
-        raising((-1 - exponent) as u32)
+        left_shift((-1 - exponent) as u32)
     } else {
-        halving(exponent as u32)
+        right_shift(exponent as u32)
     }
 }
 
-/// Returns the form of the steps at an exponent of `-by - 1`.
+/// Returns the shift for steps at an exponent of `-by - 1`.
 #[inline(always)]
-fn raising(by: u32) -> Form
+fn left_shift(by: u32) -> StepShift
     requires { by ≤ 22 }
-    ensures steps { (a : ℤ) → floor_div (a *ℤ pos (2 ^ result.up) +ℤ result.half) (2 ^ result.down) ≡ step (negsuc by) a }
-    ensures up { result.up ≡ by }
+    ensures steps { (a : ℤ) → floor_div (a *ℤ pos (2 ^ result.left) +ℤ result.rounding) (2 ^ result.right) ≡ step (negsuc by) a }
+    ensures left { result.left ≡ by }
 {
-    Form {
-        up: by,
-        half: 0,
-        down: 0,
+    StepShift {
+        left: by,
+        rounding: 0,
+        right: 0,
     }
 }
 
-/// Returns the form of the steps at an exponent of `by`.
+/// Returns the shift for steps at an exponent of `by`.
 #[inline(always)]
-fn halving(by: u32) -> Form
+fn right_shift(by: u32) -> StepShift
     requires { by ≤ 21 }
-    ensures steps { (a : ℤ) → floor_div (a *ℤ pos (2 ^ result.up) +ℤ result.half) (2 ^ result.down) ≡ step (pos by) a }
-    ensures up { result.up ≡ 0 }
+    ensures steps { (a : ℤ) → floor_div (a *ℤ pos (2 ^ result.left) +ℤ result.rounding) (2 ^ result.right) ≡ step (pos by) a }
+    ensures left { result.left ≡ 0 }
 {
-    Form {
-        up: 0,
-        half: 1i32 << by,
-        down: by + 1,
+    StepShift {
+        left: 0,
+        rounding: 1i32 << by,
+        right: by + 1,
     }
 }
 
-/// Updates the first `N` weights by the form of the steps at the exponent. `sign_mask` is all ones where the error is negative,
+/// Updates the first `N` weights by steps at an exponent, whose shift is given. `sign_mask` is all ones if the error is negative,
 /// else 0.
 #[inline(always)]
 pub fn update_by<const N: usize>(
@@ -201,37 +201,51 @@ pub fn update_by<const N: usize>(
     differences: &[i32; MOST_COMPONENTS],
     omega: u32,
     exponent: i32,
-    form: Form,
+    shift: StepShift,
     sign_mask: i32,
 )
     requires few { N ≤ 18 }
     requires sign_mask_in { (negsuc 0 ≤ℤ sign_mask) × (sign_mask ≤ℤ pos 0) }
     requires omega_in { omega ≤ 19 }
-    requires steps { (a : ℤ) → floor_div (a *ℤ pos (2 ^ form.up) +ℤ form.half) (2 ^ form.down) ≡ step exponent a }
+    requires steps { (a : ℤ) → floor_div (a *ℤ pos (2 ^ shift.left) +ℤ shift.rounding) (2 ^ shift.right) ≡ step exponent a }
     requires weights_in { AllWithin (2 ^ (omega + 2)) weights.old }
-    requires differences_in { AllWithin (2 ^ (26 - form.up)) differences.now }
+    requires differences_in { AllWithin (2 ^ (26 - shift.left)) differences.now }
     ensures value { take N weights.new ≡ updated_weights omega exponent (int_lt sign_mask (pos 0)) (take N weights.old) (take N differences.now) }
     ensures bound { AllWithin (2 ^ (omega + 2)) weights.new }
 {
     for i in 0..N {
-        weights[i] = moved(omega, exponent, form, sign_mask, weights[i], differences[i]);
+        weights[i] = moved(
+            omega,
+            exponent,
+            shift,
+            sign_mask,
+            weights[i],
+            differences[i],
+        );
     }
 }
 
 /// Returns one weight after an error.
 #[inline(always)]
-fn moved(omega: u32, exponent: i32, form: Form, sign_mask: i32, weight: i32, difference: i32) -> i32
+fn moved(
+    omega: u32,
+    exponent: i32,
+    shift: StepShift,
+    sign_mask: i32,
+    weight: i32,
+    difference: i32,
+) -> i32
     requires sign_mask_in { (negsuc 0 ≤ℤ sign_mask) × (sign_mask ≤ℤ pos 0) }
     requires omega_in { omega ≤ 19 }
-    requires steps { (a : ℤ) → floor_div (a *ℤ pos (2 ^ form.up) +ℤ form.half) (2 ^ form.down) ≡ step exponent a }
+    requires steps { (a : ℤ) → floor_div (a *ℤ pos (2 ^ shift.left) +ℤ shift.rounding) (2 ^ shift.right) ≡ step exponent a }
     requires weight_in { unsigned_abs weight ≤ 2 ^ 21 }
-    requires difference_in { unsigned_abs difference ≤ 2 ^ (26 - form.up) }
+    requires difference_in { unsigned_abs difference ≤ 2 ^ (26 - shift.left) }
     ensures value { result ≡ updated omega exponent (int_lt sign_mask (pos 0)) weight difference }
     ensures bound { unsigned_abs result ≤ 2 ^ (omega + 2) }
 {
-    // Both are found while the error isn't known yet: the next prediction waits for the choice alone.
-    let raised = clip_weight(omega, weight, stepped(form, difference));
-    let lowered = clip_weight(omega, weight, stepped(form, -difference));
+    // Both weights are computed before the error is known, so that the next prediction waits only for the choice.
+    let raised = clip_weight(omega, weight, stepped(shift, difference));
+    let lowered = clip_weight(omega, weight, stepped(shift, -difference));
     chosen(sign_mask, raised, lowered)
 }
 
@@ -258,12 +272,12 @@ fn chosen(sign_mask: i32, raised: i32, lowered: i32) -> i32
 
 /// Returns the step for a size.
 #[inline(always)]
-fn stepped(form: Form, size: i32) -> i32
-    requires { unsigned_abs size ≤ 2 ^ (26 - form.up) }
-    ensures value { result ≡ floor_div (size *ℤ pos (2 ^ form.up) +ℤ form.half) (2 ^ form.down) }
+fn stepped(shift: StepShift, size: i32) -> i32
+    requires { unsigned_abs size ≤ 2 ^ (26 - shift.left) }
+    ensures value { result ≡ floor_div (size *ℤ pos (2 ^ shift.left) +ℤ shift.rounding) (2 ^ shift.right) }
     ensures bound { unsigned_abs result ≤ 2 ^ 27 }
 {
-    (size * (1i32 << form.up) + form.half) >> form.down
+    (size * (1i32 << shift.left) + shift.rounding) >> shift.right
 }
 
 /// Returns the weight plus a step, clipped to the range of weights.

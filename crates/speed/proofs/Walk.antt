@@ -9,7 +9,7 @@ use Rattle.cube_core.specs.Order.{IsOrder, places}
 use Rattle.cube_core.proofs.Orders.{length-places}
 use Rattle.header_bits.specs.declared.params.Params.{Params}
 use Rattle.header_bits.specs.Lawful.{IsLawful}
-use Rattle.predict_core.specs.Following.{Learner}
+use Rattle.predict_core.specs.Following.{PredictorState}
 use Rattle.sample_prediction.specs.Residual.{mapped_residual, residuals}
 use Rattle.predict_core.specs.Walked.{residuals_at}
 use Rattle.predict_core.proofs.Walking.{IsOnWalk, next_goes, band_here, gone_by, gone_count, residuals_push, residuals_whole}
@@ -33,7 +33,7 @@ all_residuals p c i numbers lawful shape long known =
 
 -- ---- the sample of the next residual is put
 
-pub read_more : (p : Params) (c : Image) (left rest : List Place) (bands : List Learner) (q : Place) (b : Learner) (numbers : List ℕ) (i : ℕ) (v : ℤ)
+pub read_more : (p : Params) (c : Image) (left rest : List Place) (bands : List PredictorState) (q : Place) (b : PredictorState) (numbers : List ℕ) (i : ℕ) (v : ℤ)
     → IsLawful p → c.shape ≡ p.shape → IsOnWalk p c left bands → left ≡ q ∷ rest → slice_get bands q.z ≡ Some b → AreResiduals p c left i numbers
     → i < length numbers
     → mapped_residual p (put c q.z q.y q.x v) q.z b.t ≡ get_or numbers i 0 → AreResiduals p (put c q.z q.y q.x v) rest (i + 1) numbers

@@ -2,7 +2,7 @@ use Rattle.std.proofs.Common.{◌≡◌, ◌≤◌, ◌<◌, ◌+◌, ℕ, List,
 use Rattle.std.specs.List.{flat_map}
 use Rattle.std.proofs.lemmas.Slice.{take-put_mid}
 use Rattle.cube_core.specs.Order.{from, upto}
-use Rattle.predict_core.specs.Following.{Learner}
+use Rattle.predict_core.specs.Following.{PredictorState}
 use Rattle.file_encoding.specs.Own.{column_of, row_of}
 use Rattle.file_encoding.specs.Walks.{bands_of}
 use Rattle.file_encoding.proofs.Sending.{front_piece, last_piece, Steps, at_same, none_yet, stepped, piece_rest, two_alone}
@@ -21,7 +21,7 @@ module _ (g : Over) (c : After-piece_residuals g) where
   same : bands_of c.predict_pieces.new.bands ≡ bands_of c.args.bands.now
   same = c.predict_pieces.ensures.same ∙ c.loop-x.invariant.same
 
-  held : (k : ℕ) (b : Learner) (numbers : List ℕ) → k < 2 → numbers ≡ take c.min-count.result (get_or c.predict_pieces.new.bands k b).piece
+  held : (k : ℕ) (b : PredictorState) (numbers : List ℕ) → k < 2 → numbers ≡ take c.min-count.result (get_or c.predict_pieces.new.bands k b).piece
       → numbers ≡ flat_map (column k) (from c.loop-x.x c.min-count.result)
   held k b numbers lt is = row_piece _ _ _ _ _ k c.predict_pieces.new.bands _ b numbers (omega (arith, c.requires.two)) c.predict_pieces.ensures.past same is
 

@@ -1,5 +1,5 @@
 use Rattle.std.proofs.Common.{◌≡◌, ◌+◌, ◌*◌, ◌/◌, ◌<◌, ◌≤◌, ◌∙◌, length, slice_set, arith, length-set, take_all}
-use Rattle.predict_core.specs.Following.{Learner}
+use Rattle.predict_core.specs.Following.{PredictorState}
 use Rattle.file_encoding.proofs.RowPieces.{band_set, past_step, past_two}
 use Rattle.file_encoding.proofs.pieces.predict_pieces.Goals as goal
 
@@ -17,7 +17,7 @@ pub returns-then-pairs-bands-clause-past : goal.returns-then-pairs-bands-clause-
 returns-then-pairs-bands-clause-past c =
     let was = c.loop-k.invariant in
     let bands = slice_set c.loop-k.bands (2 * (length c.args.bands.now / 2)) c.predict_piece.new.self in
-    let whole : length bands ≤ 2 * (length c.args.bands.now / 2) + 1 = omega (arith, length-set {A = Learner}) in
+    let whole : length bands ≤ 2 * (length c.args.bands.now / 2) + 1 = omega (arith, length-set {A = PredictorState}) in
     let end : 2 * c.loop-k.k ≡ 2 * (length c.args.bands.now / 2) = omega arith in
     let past = past_step c.args.params.now _ _ _ _ c.loop-k.bands _ c.predict_piece.new.self (omega arith) (rw end at was.done) (rw end at was.left)
     c.predict_piece.ensures.held in

@@ -21,7 +21,7 @@ invariant-loop-i g l = record {
       (l.fn.run.y * l.fn.cube.shape.columns + l.fn.run.x) (take l.fn.run.settings.now.count l.fn.run.weights)
       → take l.fn.run.settings.now.count l.weights ≡ weight_vector p l.cube l.fn.run.settings.now.band (l.fn.run.y * l.cube.shape.columns + (l.fn.run.x + l.i));
   bound : AllWithin (2 ^ (l.fn.run.settings.now.predictor.omega + 2)) l.weights;
-  steps : (k : ℕ) → l.i ≤ k → k < l.stretch.end → AreSteps l.stretch.form l.fn.run.settings.now.range.bits
+  steps : (k : ℕ) → l.i ≤ k → k < l.stretch.end → AreSteps l.stretch.shift l.fn.run.settings.now.range.bits
       (step_exponent l.fn.run.settings.now.predictor l.fn.run.settings.now.columns l.fn.run.settings.now.range.bits
       (l.fn.run.y * l.fn.run.settings.now.columns + (l.fn.run.x + k)));
   west : IsWest l.cube l.fn.run.settings.now.band l.fn.run.y (l.fn.run.x + l.i) l.west;

@@ -8,4 +8,4 @@ returns-clause-steps c k le lt =
     let s = c.args.settings.now in
     let e : c.args.y * s.columns + (c.args.x + c.args.i) + (k - c.args.i) ≡ c.args.y * s.columns + (c.args.x + k) = omega (arith, le) in
     let alike = c.places_alike-alike.ensures.alike s.range.bits (k - c.args.i) (omega (arith, le, lt)) in
-    subst (AreSteps c.form_at.result s.range.bits) (sym alike ∙ ap (step_exponent s.predictor s.columns s.range.bits) e) c.form_at.ensures
+    subst (AreSteps c.shift_at.result s.range.bits) (sym alike ∙ ap (step_exponent s.predictor s.columns s.range.bits) e) c.shift_at.ensures

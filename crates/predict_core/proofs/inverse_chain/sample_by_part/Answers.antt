@@ -2,7 +2,7 @@ use Rattle.std.proofs.Common.{◌≡◌, ◌<◌, ℕ, ℤ, pos, negsuc, ◌+ℤ
 use Rattle.std.proofs.Common.{arith, refl}
 use Rattle.std.proofs.lemmas.Int.{ints}
 use Rattle.cube_core.specs.Kind.{SampleKind, smin, smid, smax}
-use Rattle.sample_prediction.specs.declared.range.Range.{Range}
+use Rattle.sample_prediction.specs.declared.sample_limits.SampleLimits.{SampleLimits}
 use Rattle.sample_prediction.specs.Arithmetic.{floor_div, clip}
 use Rattle.sample_prediction.specs.Mapping.{Between}
 use Rattle.sample_prediction.specs.Residual.{mapped_between}
@@ -16,7 +16,7 @@ below_span : (width : ℤ) (n power : ℕ) → width ≡ pos power -ℤ pos 1 �
 below_span width n power e l = omega (arith, ints, e, l)
 
 -- from the least offset to the greatest
-width : (r : Range) → to_z w32 (of_z w32 (to_z w32 (of_z w32 r.smax) -ℤ to_z w32 (of_z w32 r.smin))) ≡ smax r.kind -ℤ smin r.kind
+width : (r : SampleLimits) → to_z w32 (of_z w32 (to_z w32 (of_z w32 r.smax) -ℤ to_z w32 (of_z w32 r.smin))) ≡ smax r.kind -ℤ smin r.kind
 width r = let low = r.low in let high = r.high in rw (← r.smin_is, ← r.smax_is) (omega (arith, ints, low.0, low.1, high.0, high.1))
 
 pub unmap_by_center-offset-requires-clause-delta_in : goal.unmap_by_center-offset-requires-clause-delta_in

@@ -45,7 +45,7 @@ pub update_by-requires-clause-differences_in : goal.update_by-requires-clause-di
 update_by-requires-clause-differences_in g c =
     let s = c.args.settings.now in let d = (goal.at.update_by-requires-clause-differences_in g c).After-put_west in
     let bits = same_bits g (goal.at.update_by-requires-clause-differences_in g c).Start in
-    within_room s.range.bits c.args.form.up c.put_west.new.components (rw bits c.requires.steps.room) (small g d)
+    within_room s.range.bits c.args.shift.left c.put_west.new.components (rw bits c.requires.steps.room) (small g d)
 
 pub update_by-requires-clause-steps : goal.update_by-requires-clause-steps
 update_by-requires-clause-steps g c a =

@@ -7,7 +7,7 @@ use Rattle.sample_prediction.proofs.weights.moved.Goals.{Start, After-chosen}
 
 -- a difference with the other sign
 negated : (c : Start) → SFits w32 (pos 0 -ℤ c.args.difference)
-negated c = let r = room_word c.args.form.up in fits_signed_from_abs w32 (pos 0 -ℤ c.args.difference) (omega (arith, ints, r, c.requires.difference_in))
+negated c = let r = room_word c.args.shift.left in fits_signed_from_abs w32 (pos 0 -ℤ c.args.difference) (omega (arith, ints, r, c.requires.difference_in))
 
 pub overflow_sub-difference : goal.overflow_sub-difference
 overflow_sub-difference c = rw (to_z-of_z c.ranges.difference) (negated (goal.at.overflow_sub-difference c).Start)

@@ -28,7 +28,7 @@ loop-i-preserved g c =
     let weight_fits : SFits w32 (get_or now i (pos 0)) =
     SFits-small (get_or now i (pos 0)) (le_trans (c.loop-i.invariant.bound i now_long) (limit_within c.args.omega c.requires.omega_in)) in
     let difference_fits : SFits w32 (get_or us i (pos 0)) =
-    (let r = room_word c.args.form.up in let u = c.requires.differences_in i us_long in SFits-26 (get_or us i (pos 0)) (omega (arith, r, u))) in
+    (let r = room_word c.args.shift.left in let u = c.requires.differences_in i us_long in SFits-26 (get_or us i (pos 0)) (omega (arith, r, u))) in
     let e = simp (to_z-of_z c.ranges.sign_mask, to_z-of_z c.ranges.exponent, to_z-of_z weight_fits, to_z-of_z difference_fits) at c.moved.ensures.value in
     let done = rw (to_z-of_z c.ranges.sign_mask, to_z-of_z c.ranges.exponent) at c.loop-i.invariant.done in
     rw (to_z-of_z fits, to_z-of_z c.ranges.sign_mask, to_z-of_z c.ranges.exponent)

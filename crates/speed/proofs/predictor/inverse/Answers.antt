@@ -2,7 +2,7 @@ use Rattle.std.proofs.Common.{rules, SFits, w32, to_z-of_z, ◌≡◌, ◌<◌, 
 use Rattle.std.specs.List.{slice_get}
 use Rattle.std.proofs.lemmas.Option.{slice_get-get_or}
 use Rattle.cube_core.specs.Image.{put}
-use Rattle.predict_core.specs.Following.{Learner}
+use Rattle.predict_core.specs.Following.{PredictorState}
 use Rattle.predict_core.specs.Walked.{IsAlong}
 use Rattle.cube_core.proofs.Come.{time_of}
 use Rattle.predict_core.proofs.Walking.{NextGoes, next_goes, band_here, gone_count, on_walk_first, on_walk_more}
@@ -36,7 +36,7 @@ band_is c =
     let g = next_goes c.args.params.now c.in-Some.place c.loop-place.places c.next.new.self c.requires.lawful.order c.loop-place.invariant.walk.rest
     c.in-Some.ensures.steps in
     slice_get-get_or c.loop-place.bands.items c.in-Some.place.z c.index_mut.result.now
-    (omega (arith, g.stands.place.band, c.loop-place.invariant.walk.many)) ∙ ap (λ (b : Learner). Some b) (sym c.index_mut.ensures.value)
+    (omega (arith, g.stands.place.band, c.loop-place.invariant.walk.many)) ∙ ap (λ (b : PredictorState). Some b) (sym c.index_mut.ensures.value)
 
 here : (c : After-index_mut) → IsAlong c.args.params.now c.loop-place.cube (gone_count c.args.params.now c.loop-place.places) c.in-Some.place.z
     c.index_mut.result.now × (c.index_mut.result.now.t ≡ time_of c.args.params.now.shape c.in-Some.place)

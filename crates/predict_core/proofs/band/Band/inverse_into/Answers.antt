@@ -1,6 +1,6 @@
 use Rattle.std.proofs.Common.{◌≡◌, SFits, w32, to_z-of_z, rules, ap, ◌∙◌}
 use Rattle.cube_core.specs.Image.{put}
-use Rattle.predict_core.specs.Following.{Learner}
+use Rattle.predict_core.specs.Following.{PredictorState}
 use Rattle.predict_core.proofs.band.Band.inverse_into.Goals as goal
 use Rattle.predict_core.proofs.band.Band.inverse_into.Goals.{After-set}
 
@@ -8,7 +8,7 @@ use Rattle.predict_core.proofs.band.Band.inverse_into.Goals.{After-set}
 is : (c : After-set) → c.set.new.self ≡ put c.args.cube.now c.args.self.now.band c.args.y c.args.x c.inverse-sample.result
 is c =
     let fits : SFits w32 c.inverse-sample.result = search rules in
-    let band : c.self.inside.settings.band ≡ c.args.self.now.band = ap (λ (b : Learner). b.band) c.self.view_is in
+    let band : c.self.inside.settings.band ≡ c.args.self.now.band = ap (λ (b : PredictorState). b.band) c.self.view_is in
     simp (to_z-of_z fits) at c.set.ensures ∙ ap (λ b. put c.args.cube.now b c.args.y c.args.x c.inverse-sample.result) band
 
 pub returns-clause-written : goal.returns-clause-written

@@ -4,7 +4,7 @@ use Rattle.cube_core.specs.Shape.{Sizes}
 use Rattle.predict_core.specs.declared.settings.Settings.{Settings}
 use Rattle.sample_prediction.specs.Bounds.{AllWithin}
 
-pub record IsLearner (s : Settings) (shape : Sizes) (weights : List ℤ) : Type 0 where
+pub record IsPredictorState (s : Settings) (shape : Sizes) (weights : List ℤ) : Type 0 where
   pub rows : shape.rows ≤ 65536
   pub columns : s.columns ≡ shape.columns
   pub inside : s.band < shape.bands

@@ -1,13 +1,13 @@
 use Rattle.std.proofs.Common.{◌≡◌, ◌^◌, ◌≤◌, ◌*◌, ◌%◌, pos, to_z, w32, arith, pow_mono}
 use Rattle.std.proofs.lemmas.Int.{ints}
 use Rattle.sample_prediction.proofs.Moves.{bit_in_word, halving_is}
-use Rattle.sample_prediction.proofs.weights.halving.Goals as goal
+use Rattle.sample_prediction.proofs.weights.right_shift.Goals as goal
 
 pub invariant_of-result : goal.invariant_of-result
 invariant_of-result c =
     let few = c.requires in let power : 2 ^ c.args.by ≤ 2 ^ 21 = pow_mono few in
     let half : to_z w32 (1 * 2 ^ c.args.by % 2 ^ 32) ≡ pos (2 ^ c.args.by) = bit_in_word c.args.by (omega (arith, few)) in
-    record { up_in = omega arith; half_in = (rw half (omega (arith, ints)), rw half (omega (arith, ints, power))); down_in = omega (arith, few) }
+    record { left_in = omega arith; rounding_in = (rw half (omega (arith, ints)), rw half (omega (arith, ints, power))); right_in = omega (arith, few) }
 
 pub returns-clause-steps : goal.returns-clause-steps
 returns-clause-steps c a = let few = c.requires in rw (bit_in_word c.args.by (omega (arith, few))) (halving_is a c.args.by)

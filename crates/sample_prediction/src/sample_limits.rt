@@ -10,7 +10,7 @@ use cube_core::kind::Kind;
 
 /// A kind of samples with its least, middle and greatest sample.
 #[derive(Clone, Copy)]
-pub struct Range {
+pub struct SampleLimits {
     /// The kind itself.
     pub kind: Kind,
     /// D, the bits of a sample.
@@ -33,12 +33,12 @@ pub struct Range {
     pub ghost span: { smax ≤ℤ (smin +ℤ pos 65535) },
 }
 
-impl Range {
+impl SampleLimits {
     /// Returns the limits of a kind.
-    pub fn of(kind: Kind) -> Range
+    pub fn of(kind: Kind) -> SampleLimits
         ensures { result.kind ≡ kind }
     {
-        Range {
+        SampleLimits {
             kind,
             bits: kind.bits(),
             smin: kind.smin(),

@@ -1,6 +1,6 @@
 use Rattle.std.proofs.Common.{arith, rules}
 use Rattle.std.proofs.lemmas.Grind.{common_steps}
-use Rattle.sample_prediction.proofs.range.Range.sample_of.Goals as goal
+use Rattle.sample_prediction.proofs.sample_limits.SampleLimits.sample_of.Goals as goal
 
 pub unmap_between-requires-clause-delta_in : goal.unmap_between-requires-clause-delta_in
 unmap_between-requires-clause-delta_in c = grind (arith, common_steps)

@@ -1,8 +1,8 @@
 use Rattle.std.proofs.Common.{SFits, w32, to_z-of_z, rules, ◌∙◌}
-use Rattle.predict_core.proofs.prediction.form_at.Goals as goal
+use Rattle.predict_core.proofs.prediction.shift_at.Goals as goal
 
 pub returns : goal.returns
 returns c =
     let fits : SFits w32 c.exponent_at.result = search rules in
     let e = to_z-of_z fits ∙ rw (c.from.ensures, c.from-2.ensures, c.from-3.ensures) at c.exponent_at.ensures.value in
-    record { steps = λ a. rw e at (c.form_of.ensures.steps a); room = c.form_of.ensures.room }
+    record { steps = λ a. rw e at (c.step_shift.ensures.steps a); room = c.step_shift.ensures.room }

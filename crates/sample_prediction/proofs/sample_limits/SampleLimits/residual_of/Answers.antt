@@ -2,8 +2,8 @@ use Rattle.std.proofs.Common.{◌≡◌, SFits, w32, to_z-of_z, rules}
 use Rattle.std.proofs.lemmas.Int.{ints}
 use Rattle.sample_prediction.specs.Residual.{mapped}
 use Rattle.sample_prediction.proofs.OneSample.{one_sample_lem}
-use Rattle.sample_prediction.proofs.range.Range.residual_of.Goals as goal
-use Rattle.sample_prediction.proofs.range.Range.residual_of.Goals.{After-map_between}
+use Rattle.sample_prediction.proofs.sample_limits.SampleLimits.residual_of.Goals as goal
+use Rattle.sample_prediction.proofs.sample_limits.SampleLimits.residual_of.Goals.{After-map_between}
 
 value : (c : After-map_between) → c.map_between.result ≡ mapped c.args.self.now.kind c.args.scaled c.args.sample
 value c =
