@@ -18,7 +18,7 @@ TOP = Path(__file__).resolve().parent.parent
 CRATES = TOP / "crates"
 PAGE = TOP / "docs" / "AUDIT.md"
 CLAIMS = [
-    ("coder_pipe/src/encode.rt", "encode_one"),
+    ("file_encoding/src/encode.rt", "encode_one"),
     ("coder_pipe/src/encode_predicted.rt", "encode_predicted"),
     ("file_decoding/src/decode.rt", "decode"),
 ]
@@ -36,7 +36,7 @@ class File:
         here = None
         for line in (CRATES / crate / "specs" / f"{name}.antt").read_text(encoding="utf-8").splitlines():
             code = line.partition("-- ")[0]
-            if code.startswith("use "):
+            if code.startswith(("use ", "pub use ")):
                 self.bring(code)
             elif code and not code[0].isspace() and (head := HEAD.match(code)) and not code.startswith("unfolding"):
                 here = head[1]

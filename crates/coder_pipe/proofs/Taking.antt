@@ -1,4 +1,4 @@
--- What the coding end has taken of all predictors, run after run.
+-- What the weaver has taken of all predictors, run after run.
 use Rattle.std.proofs.Common.{◌≡◌, ◌+◌, ◌^◌, ◌<◌, ◌≤◌, ℕ, zero, suc, List, [], ◌∷◌, ◌++◌, length, drop, get_or, set, Some, None, refl, sym, ap, ◌∙◌, inl, inr}
 use Rattle.std.proofs.Common.{append-nil, append_assoc, length-append, length-drop, length-set, get_or-set_other, arith}
 use Rattle.std.specs.Prelude.{◌==◌, if◌then◌else◌}

@@ -1,4 +1,4 @@
--- Whose residuals the coding end of predictors wants, and what it has taken.
+-- Whose residuals the weaver wants, and which it has taken.
 use Rattle.std.proofs.Common.{◌≡◌, ◌+◌, ◌<◌, ◌≤◌, ℕ, zero, suc, true, List, [], ◌∷◌, length, take, drop, get_or, Some, None, Result, Ok, Err, OnOk, OnErr, refl}
 use Rattle.std.proofs.Common.{sym, ap, subst, ◌∙◌, length-append, length-take, arith}
 use Rattle.std.specs.Prelude.{option_map}

@@ -9,14 +9,14 @@ use Rattle.header_bits.specs.Lawful.{IsLawful, in_range_or}
 use Rattle.header_bits.specs.Parts.{fine}
 use Rattle.coder_pipe.specs.Weave.{IsDeal}
 
--- for which parameters; how many predictors; the predictor of each band; and the room of a lane
+-- a plan: the parameters that it is for, the number of predictors, the predictor of each band, and the slots of a lane
 pub record PlanState : Type 0 where
   pub params : Params
   pub predictors : ℕ
   pub deal : List ℕ
   pub slots : ℕ
 
--- how many predictors and slots there may be, and each band is dealt to a predictor
+-- 1 to 64 predictors, 1 to 65,536 slots, and each band is dealt to a predictor
 pub record MayPlan (predictors slots bands : ℕ) (deal : List ℕ) : Type 0 where
   pub few : InRange 1 64 predictors
   pub room : InRange 1 65536 slots
@@ -29,7 +29,7 @@ pub record IsPlan (d : PlanState) : Type 0 where
 
 -- ---- the first refusal
 
--- a band's number, which is told up to 2^32 - 1
+-- a band as `BadDeal` reports it: at most 2^32 - 1
 abbrev pub told_band : ℕ → ℕ
 told_band z = min z 4294967295
 
@@ -42,11 +42,11 @@ owner_fault predictors z (q ∷ deal) = refuse_if (not (nat_lt q predictors)) (B
 abbrev pub length_fault : ℕ → List ℕ → Test
 length_fault bands deal = refuse_if (not (length deal == bands)) (BadDeal (min (length deal) bands))
 
--- the number of predictors is checked first, then that of slots, then each owner, then how many are dealt
+-- the number of predictors is checked first, then that of slots, then the predictor of each band, then the length of the deal
 unfoldable pub plan_fault : ℕ → ℕ → ℕ → List ℕ → Test
 plan_fault predictors slots bands deal = in_range_or field.Predictors 1 64 predictors >> in_range_or field.Slots 1 65536 slots >> owner_fault predictors 0
     deal >> length_fault bands deal
 
--- there is no refusal exactly where there may be a plan
+-- a plan has no fault exactly if it may be made
 abbrev pub PlanFaultIsExact : Type 0
 PlanFaultIsExact = (predictors slots bands : ℕ) (deal : List ℕ) → (plan_fault predictors slots bands deal ≡ fine) ↔ MayPlan predictors slots bands deal

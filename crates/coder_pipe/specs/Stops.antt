@@ -1,9 +1,9 @@
--- How weaving ends, and what is said of a predictor that was stopped.
+-- How interleaving ends, and where a predictor may have been stopped.
 use Rattle.std.specs.Prelude.{ℕ, ◌<◌, Bool, List, length, slice_index_or, IsTrue}
 use Rattle.coder_pipe.specs.declared.run.Woven.{Woven}
 use Rattle.coder_pipe.specs.declared.run.Woven.TheVariants.{Whole, Stopped, Memory}
 
--- predictor q's own gate may stop it at its n-th number, and its feed has that number
+-- predictor q's own gate may stop it at residual n of its feed, and the feed has that residual
 abbrev pub MayStopAt : {F G : Type 0} → (G → ℕ → ℕ → Bool) → (F → List ℕ) → List F → List G → ℕ → ℕ → Type 0
 MayStopAt {F} {G} may_stop items feeds gates q n =
     (q < length feeds) × ((f : F) (g : G) → IsTrue (may_stop (slice_index_or gates q g) q n) × (n < length (items (slice_index_or feeds q f))))

@@ -1,4 +1,4 @@
-//! The pipeline: predictors in threads of their own, and the coding end in the thread that calls.
+//! The pipeline: predictors in threads of their own, and the weaver in the thread that calls.
 
 ghost use Rattle.std.specs.Prelude.{◌≡◌, ◌≤◌, [], length, map, All, IfOk, IfErr, IfSome, vec_len, vec_capacity};
 ghost use Rattle.cube_core.specs.Shape.{InRange, sample_count};

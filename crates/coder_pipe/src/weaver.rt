@@ -1,4 +1,4 @@
-//! The coding end of predictors: it weaves what they send along the encoding order, and codes it.
+//! The weaver: it interleaves what predictors send along the encoding order, and codes it.
 
 ghost use Rattle.std.specs.Prelude.{◌≡◌, ◌<◌, ◌≤◌, ℕ, List, [], ◌∷◌, ◌++◌, length, take, slice_get, IfOk, IfErr, OnOk, OnErr};
 ghost use Rattle.cube_core.specs.declared.fault.Fault.TheVariants.{WantOfMemory};
@@ -17,7 +17,7 @@ use header_bits::params::Params;
 use std::alloc::Global;
 use std::marker::Model;
 
-/// The coding end of an image whose residuals come from predictors. It sees no cube.
+/// Encodes an image whose residuals come from predictors. It sees no cube.
 ///
 /// Contracts see which numbers it has taken, in encoding order, whoever they came from.
 #[derive(Drop)]
@@ -39,7 +39,7 @@ impl Model for Weaver {
 }
 
 impl Weaver {
-    /// Returns the coding end of an image, by a plan for its parameters. It has taken nothing.
+    /// Returns the weaver of an image, by a plan for its parameters. It has taken nothing.
     ///
     /// Returns `WantOfMemory` if the header, the statistics of all bands, or the copy of the deal can't be
     /// allocated.

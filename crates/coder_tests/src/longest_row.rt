@@ -64,7 +64,7 @@ fn by_blocks() -> Coder {
     }
 }
 
-/// Asserts that a coding end takes a zero for each sample in one call, and then has no next place.
+/// Asserts that a file encoder takes a zero for each sample in one call, and then has no next place.
 fn takes_all(rt: &impl Abort, alloc: Global, params: &Params)
     requires lawful { IsLawful params.now }
     requires bits { params.now.kind.bits ≡ 8 }
@@ -76,7 +76,7 @@ fn takes_all(rt: &impl Abort, alloc: Global, params: &Params)
     assert!(rt; end.place().is_none());
 }
 
-/// Asserts that a coding end takes the zeros of one row of these columns and bands in one call.
+/// Asserts that a file encoder takes the zeros of one row of these columns and bands in one call.
 fn all_are_taken(
     rt: &impl Abort,
     alloc: Global,
@@ -89,7 +89,7 @@ fn all_are_taken(
     takes_all(rt, alloc, &params);
 }
 
-/// Checks that a coding end takes a whole row, the columns of two bands, and blocks.
+/// Checks that a file encoder takes a whole row, the columns of two bands, and blocks.
 #[test]
 fn long_runs_are_taken(rt: HostRuntime) {
     let alloc = rt.alloc();

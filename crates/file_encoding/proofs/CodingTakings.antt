@@ -1,4 +1,4 @@
--- Coding ends take lists one after another.
+-- File encoders take lists one after another.
 use Rattle.std.proofs.Common.{◌^◌, ◌<◌, ℕ, Bool, true, false, List, [], ◌++◌, refl, sym, subst, append-nil, append_assoc, length-append, arith}
 use Rattle.header_bits.proofs.Items.{all_first, all_last}
 use Rattle.file_encoding.specs.Ends.{FileEncoderState, HasCoded, MayCodeAll}

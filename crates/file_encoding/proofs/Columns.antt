@@ -1,4 +1,4 @@
--- What the coding end has taken, column by column.
+-- What the file encoder has taken, column by column.
 use Rattle.std.proofs.Common.{◌≡◌, ◌+◌, ◌*◌, ◌^◌, ◌<◌, ◌≤◌, ℕ, zero, suc, Bool, List, [], ◌∷◌, length, drop, Some, refl, ap, subst, arith}
 use Rattle.std.specs.List.{AllByRecursion, slice_get}
 use Rattle.cube_core.specs.declared.order.Place.{Place}

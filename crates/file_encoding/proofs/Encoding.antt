@@ -64,7 +64,7 @@ all_residuals p c lawful shape =
     sym (own_is_part p c 0 [] shape)
     ∙ part_all (places p.shape p.order) (residuals p c) (length-all p c lawful shape ∙ sym (length-places p.shape p.order lawful))
 
--- they may be taken by a coding end that has taken nothing
+-- they may be taken by a file encoder that has taken nothing
 pub may_take : (p : Params) (c : Image) (e : FileEncoderState) → IsLawful p → IsSeen p c → IsCube c → HasCoded p e [] → MayCodeAll e (own_residuals p c 0 [] p.order)
 may_take p c e lawful seen cube coded = subst (MayCodeAll e) (sym (all_residuals p c lawful.order seen.shape)) (record {
   params = p;

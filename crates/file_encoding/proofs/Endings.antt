@@ -1,4 +1,4 @@
--- What the coding end of an image has taken, number after number, and the file that it then gives.
+-- What the file encoder has taken, residual after residual, and the file that it then gives.
 use Rattle.std.proofs.Common.{◌≡◌, ◌+◌, ◌*◌, ◌-◌, ◌<◌, ◌≤◌, ℕ, Bool, List, [], ◌∷◌, ◌++◌, length, drop, Some, None, refl, sym, ap, ◌∙◌, append_assoc}
 use Rattle.std.proofs.Common.{length-append, length-drop, arith}
 use Rattle.std.specs.List.{slice_get}
@@ -58,7 +58,7 @@ comes_next p e numbers h more none = omega (arith, length-left p e numbers h, mo
 pub place_comes : (e : FileEncoderState) (number : ℕ) → MayCode e number → None ≡ slice_get e.left 0 → ⊥
 place_comes e number may none = comes_next may.params e may.numbers may.coded may.more none
 
--- what the entropy coder has taken, the coding end has
+-- what the entropy coder has taken, the file encoder has
 pub coded_after : (old new : FileEncoderState) (list : List ℕ) (p : Params) (numbers : List ℕ) (h : HasCoded p old numbers)
     → length numbers + length list ≤ length (places p.shape p.order) → new.left ≡ drop (length list) old.left → new.columns ≡ old.columns → new.word ≡ old.word
     → (more : List Bool) → new.bits ≡ old.bits ++ more → HasTaken p new.coder (numbers ++ list) (h.written ++ more)

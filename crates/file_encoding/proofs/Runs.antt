@@ -1,4 +1,4 @@
--- What the coding end has taken, several numbers at a time: by blocks, and row by row.
+-- What the file encoder has taken, several residuals at a time: by blocks, and row by row.
 use Rattle.std.proofs.Common.{◌≡◌, ◌+◌, ◌*◌, ◌-◌, ◌<◌, ◌≤◌, ◌^◌, ℕ, zero, suc, Bool, true, List, [], ◌∷◌, ◌++◌, append-nil, length, take, drop, Some, None}
 use Rattle.std.proofs.Common.{refl, sym, ap, ◌∙◌, subst, append_assoc, length-append, length-take, length-drop, arith}
 use Rattle.std.specs.List.{AllByRecursion, slice_get}

@@ -1,4 +1,4 @@
--- The coding end takes a list of residuals.
+-- The file encoder takes a list of residuals.
 use Rattle.std.specs.Prelude.{ℕ, Bool, List, IsTrue}
 use Rattle.file_encoding.specs.Ends.{FileEncoderState, CodesAll}
 

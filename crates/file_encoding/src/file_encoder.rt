@@ -1,4 +1,4 @@
-//! The coding end of an image: from residuals in encoding order to the bytes of its file.
+//! The file encoder of an image: from residuals in encoding order to the bytes of its file.
 
 ghost use Rattle.std.specs.Prelude.{◌≡◌, ◌+◌, ◌<◌, ◌≤◌, ℕ, List, [], ◌∷◌, ◌++◌, length, take, drop, Some, slice_get, IsTrue, IfOk, IfErr, OnOk, OnErr};
 ghost use Rattle.cube_core.specs.declared.fault.Fault.TheVariants.{WantOfMemory};
@@ -49,7 +49,7 @@ impl Model for FileEncoder {
 }
 
 impl FileEncoder {
-    /// Returns the coding end of an image. It has written the header and taken no residual.
+    /// Returns the file encoder of an image. It has written the header and taken no residual.
     ///
     /// Returns `WantOfMemory` if the header or the statistics of all bands can't be allocated.
     pub fn new(alloc: Global, params: &Params) -> Result<FileEncoder, Fault>

@@ -1,4 +1,4 @@
-//! What residuals are passed to, run by run, by a walk over an image: the coding end, or a predictor's lane.
+//! What residuals are passed to, run by run, by a walk over an image: the file encoder, or a predictor's lane.
 
 ghost use Rattle.std.specs.Prelude.{ℕ, Bool, List};
 ghost use Rattle.file_encoding.specs.Codings.{Takes};

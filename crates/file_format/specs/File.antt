@@ -12,7 +12,7 @@ use Rattle.sample_adaptive.specs.Settings.{settings}
 use Rattle.sample_adaptive.specs.Body.{sample_body}
 use Rattle.block_adaptive.specs.Chosen.{chosen_block_body}
 
--- the body of residuals in encoding order, by the coder that the parameters name
+-- the body of residuals, which are in encoding order, by the coder that the parameters name
 abbrev pub body_by : Coder → Params → List ℕ → List Bool
 body_by (Sample umax gamma_star gamma_zero start) p numbers = sample_body (settings p) (places p.shape p.order) numbers
 body_by (Block size restricted reference) p numbers = chosen_block_body (record { bits = p.kind.bits; restricted = restricted }) size reference numbers
@@ -20,7 +20,7 @@ body_by (Block size restricted reference) p numbers = chosen_block_body (record 
 unfoldable pub body_of : Params → List ℕ → List Bool
 body_of p numbers = body_by p.coder p numbers
 
--- the fewest bits that bring a length to whole output words of so many bytes
+-- the number of fill bits after `bits` bits: the fewest that complete an output word of `word` bytes
 abbrev pub fill_length : ℕ → ℕ → ℕ
 fill_length word bits = (8 * word - bits % (8 * word)) % (8 * word)
 
@@ -28,12 +28,12 @@ fill_length word bits = (8 * word - bits % (8 * word)) % (8 * word)
 abbrev pub filled : ℕ → List Bool → List Bool
 filled word bits = bits ++ replicate (fill_length word (length bits)) false
 
--- so many bytes from the front of bits
+-- the first n bytes of bits
 unfoldable pub packed_from : ℕ → List Bool → List ℕ
 packed_from zero bits = []
 packed_from (suc n) bits = number_of (take 8 bits) ∷ packed_from n (drop 8 bits)
 
--- the bytes whose bits these are
+-- the bytes of bits
 unfoldable pub packed : List Bool → List ℕ
 packed bits = packed_from (length bits / 8) bits
 

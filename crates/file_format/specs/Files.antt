@@ -21,7 +21,7 @@ use Rattle.block_adaptive.specs.DataSets.{IsBlockBody}
 use Rattle.block_adaptive.specs.Reading.{block_body_at}
 use Rattle.file_format.specs.MinimumLength.{minimum_length_test}
 
--- the bits are the residuals' code words; or lawful data sets of their blocks
+-- the bits are the residuals' code words; or coded data sets of their blocks, by any lawful options
 abbrev pub IsBodyBy : Coder → Params → List ℕ → List Bool → Type 0
 IsBodyBy (Sample umax gamma_star gamma_zero start) p numbers bits = bits ≡ sample_body (settings p) (places p.shape p.order) numbers
 IsBodyBy (Block size restricted reference) p numbers bits = IsBlockBody (record { bits = p.kind.bits; restricted = restricted }) size reference numbers bits
@@ -41,7 +41,7 @@ pub record IsFile (bytes : List ℕ) (p : Params) (c : Image) : Type 0 where
   pub few : fill < 8 * p.word
   pub text : bits_of_bytes bytes ≡ header ++ body ++ replicate fill false
 
--- the bits after the body that they begin with, or its first fault in bit order; the file has `count` bits
+-- the bits that follow the body, or the body's first fault in bit order; the file has `count` bits
 abbrev pub after_by : Coder → ℕ → Params → List Bool → Result (List Bool) Fault
 after_by (Sample umax gamma_star gamma_zero start) count p bits =
     sample_body_at count (settings p) (places p.shape p.order) bits >>= λ read. Ok read.1
@@ -51,12 +51,12 @@ after_by (Block size restricted reference) count p bits =
 unfoldable pub after_body : ℕ → Params → List Bool → Result (List Bool) Fault
 after_body count p bits = after_by p.coder count p bits
 
--- whether a bit is one
+-- whether one of the bits is 1
 abbrev pub some_one : List Bool → Bool
 some_one [] = false
 some_one (bit ∷ bits) = bit || some_one bits
 
--- the bits after a body: fewer than an output word has, and then none of them is one
+-- the fill after a body: fewer bits than an output word has, all of them 0
 abbrev pub fill_test : ℕ → List Bool → Test
 fill_test word bits = refuse_if (nat_le (8 * word) (length bits)) (TooLong (length bits)) >> refuse_if (some_one bits) BadFill
 
@@ -64,7 +64,7 @@ fill_test word bits = refuse_if (nat_le (8 * word) (length bits)) (TooLong (leng
 unfoldable pub body_test : ℕ → Params → List Bool → Test
 body_test count p bits = after_body count p bits >>= λ rest. fill_test p.word rest
 
--- a header after which there are as many bits as every body has: its parameters and these bits, or the first refusal
+-- a header followed by at least as many bits as every body has: its parameters and the bits after it, or the first refusal
 unfoldable pub head_at : Reading Params
 head_at bits = header_at bits >>= λ header. minimum_length_test (length bits) header.0 header.1 >> Ok header
 

@@ -10,7 +10,7 @@ use Rattle.file_format.specs.File.{file_of}
 use Rattle.file_format.specs.Files.{IsFile, file_test}
 use Rattle.file_format.specs.MinimumLength.{minimum_length}
 
--- the file that is written of a cube is a file of it
+-- the file that is written for a cube is a file of it
 abbrev pub ChosenIsFile : Type 0
 ChosenIsFile = (p : Params) (c : Image) → IsLawful p → IsCubeOf p c → IsFile (file_of c p) p c
 
@@ -28,7 +28,7 @@ NoShorterFile =
     (bytes : List ℕ) (p : Params) (c : Image) → IsLawful p → (f : IsFile bytes p c)
     → length f.header + minimum_length p ≤ 8 * length bytes
 
--- no bytes are a file of two pairs of parameters and cube
+-- no bytes are a file of two different pairs of parameters and cube
 abbrev pub OneFile : Type 0
 OneFile =
     (bytes : List ℕ) (p q : Params) (c d : Image) → IsLawful p → IsFile bytes p c → IsFile bytes q d

@@ -1,4 +1,4 @@
-//! Tests of the pipeline through its public calls: plans, the coding end, stops, and the files that predictors make.
+//! Tests of the pipeline through its public calls: plans, the weaver, stops, and the files that predictors make.
 #![tactic(auto)]
 
 #[cfg(test)]

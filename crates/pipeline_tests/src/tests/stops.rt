@@ -94,7 +94,7 @@ fn first_is_named<R: Threads + Wait + Sync + Abort>(
     same(rt, answer.err(), stopped(one.predictor, one.nth));
 }
 
-/// Checks that of two stopped predictors the first is named, although the coding end meets the other one earlier, or the
+/// Checks that of two stopped predictors the first is named, although the weaver meets the other one earlier, or the
 /// other one has sent more.
 #[test]
 fn the_first_of_two_is_named(rt: HostRuntime) {
@@ -104,7 +104,7 @@ fn the_first_of_two_is_named(rt: HostRuntime) {
     }
 }
 
-/// Checks that the first of two is named where neither has sent a residual, and the coding end meets the other one earlier.
+/// Checks that the first of two is named where neither has sent a residual, and the weaver meets the other one earlier.
 #[test]
 fn the_first_is_named_where_none_has_sent(rt: HostRuntime) {
     first_is_named(

@@ -1,4 +1,4 @@
-//! Weaving whole lists of residuals with the coding end of predictors.
+//! Interleaving whole lists of residuals with the weaver.
 
 ghost use Rattle.std.specs.Prelude.{◌≡◌, ◌<◌};
 
@@ -17,7 +17,7 @@ pub(crate) struct Woven {
     pub(crate) file: Vec<u8>,
 }
 
-/// Weaves 8-bit residuals, a list of them for each predictor, as the coding end wants them, and asserts that it wants
+/// Weaves 8-bit residuals, a list of them for each predictor, as the weaver wants them, and asserts that it wants
 /// none after the last.
 pub(crate) fn weave_all(
     rt: &impl Abort,

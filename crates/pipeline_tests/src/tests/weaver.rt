@@ -1,4 +1,4 @@
-//! Tests of the coding end of predictors, with residuals that come from no cube.
+//! Tests of the weaver, with residuals that come from no cube.
 
 ghost use Rattle.std.specs.Prelude.{◌≡◌, [], ◌∷◌, IfOk};
 ghost use Rattle.cube_core.specs.declared.order.Order.TheVariants.{Bi};
