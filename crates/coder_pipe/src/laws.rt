@@ -3,19 +3,19 @@
 ghost use Rattle.coder_pipe.specs.Plans.{PlanFaultIsExact};
 ghost use Rattle.coder_pipe.specs.Weave.{PartsOfWeave, WeaveOfParts, WeaveOfTaken};
 
-/// The parts of all predictors, woven together along the encoding order, are the residuals.
+/// The parts of all predictors, interleaved along the encoding order, are the residuals.
 #[tactic(auto, using(crate::proofs::Weaves::weave_of_parts))]
 pub fn weave_of_parts()
     ensures { WeaveOfParts }
 {}
 
-/// Numbers along the first places are what their parts are woven to.
+/// A list along the first places is what its parts interleave to.
 #[tactic(auto, using(crate::proofs::Weaves::weave_of_taken))]
 pub fn weave_of_taken()
     ensures { WeaveOfTaken }
 {}
 
-/// Lists with a number for each place of their predictors are the parts of the list that they weave to.
+/// Lists with one item for each place of their predictors are the parts of the list that they interleave to.
 pub fn parts_of_weave()
     ensures { PartsOfWeave }
 {}

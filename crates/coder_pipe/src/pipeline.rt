@@ -8,7 +8,7 @@ ghost use Rattle.coder_pipe.specs.Standings.{feeds_of, gates_of, handed_of, IsWo
 ghost use Rattle.coder_pipe.specs.Stops.{MayStopAt};
 ghost use Rattle.coder_pipe.specs.Woven.{HasWoven};
 
-use crate::run::{Woven, drain, finish_all, join_all, start_all, stop_all, weave};
+use crate::run::{Outcome, drain, finish_all, join_all, start_all, stop_all, weave};
 use crate::weaver::Weaver;
 use band_rings::settled::SettledLane;
 use cube_core::fault::Fault;
@@ -31,7 +31,7 @@ pub struct Piped {
     pub lanes: Vec<SettledLane>,
 }
 
-/// Returns the file of the residuals that the predictors of a plan send, woven along the encoding order, and
+/// Returns the file of the residuals that the predictors of a plan send, interleaved along the encoding order, and
 /// their lanes.
 ///
 /// The plan is for these parameters, and there is one feed for each predictor, in order. Each feed states a
@@ -145,7 +145,7 @@ fn prepare<F: Drop>(alloc: Global, slots: u32, feeds: Vec<F>) -> Result<Vec<Read
     Ok(prepared)
 }
 
-/// Starts all workers, weaves what they send, and joins them.
+/// Starts all workers, interleaves what they send, and joins them.
 fn run_in<'s, E, R: Threads + Wait + Sync + 's, F: Feed + Send + 's, G: Gate + Sync + 's>(
     scope: &Scope<'s, E>,
     rt: &'s R,
@@ -199,8 +199,8 @@ fn weave_all<R: Threads + Wait, F: Feed, G: Gate>(
     let mut stages = stages;
     let mut weaver = weaver;
     match weave(rt, plan, &mut stages, done_flags, &mut weaver) {
-        Woven::Whole => finish_woven(rt, plan, stages, lanes, weaver),
-        Woven::Stopped(q, n) => {
+        Outcome::Whole => finish_woven(rt, plan, stages, lanes, weaver),
+        Outcome::Stopped(q, n) => {
             drain(rt, &mut stages, done_flags);
             match stop_all(rt, stages) {
                 Some((predictor, sent)) => Err(Fault::Stopped { predictor, sent }),
@@ -210,7 +210,7 @@ fn weave_all<R: Threads + Wait, F: Feed, G: Gate>(
                 }),
             }
         }
-        Woven::Memory => {
+        Outcome::Memory => {
             drain(rt, &mut stages, done_flags);
             join_all(rt, stages);
             Err(Fault::WantOfMemory)

@@ -1,4 +1,4 @@
-//! All workers of a pipeline: started, woven and joined.
+//! All workers of a pipeline: started, interleaved and joined.
 
 ghost use Rattle.std.specs.Prelude.{◌≡◌, ℕ, ◌-◌, ◌<◌, ◌≤◌, ◌⊎◌, [], length, map, All, Some, None, IfSome, IfNone, IsTrue, vec_len, vec_capacity, slice_index_or};
 ghost use Rattle.cube_core.specs.Shape.{sample_count};
@@ -20,8 +20,8 @@ use std::sync::Wait;
 use std::sync::atomic::{AtomicBool, Ordering};
 use std::thread::{Scope, Threads};
 
-/// How the weaving ended.
-pub(crate) enum Woven {
+/// How interleaving ended.
+pub(crate) enum Outcome {
     /// A residual was taken for each place.
     Whole,
     /// A predictor was stopped after it had sent this many residuals.
@@ -40,7 +40,7 @@ pub(crate) fn weave<R: Threads + Wait, F: Feed, G: Gate>(
     stages: &mut Vec<Stage<F, G>>,
     done_flags: &[AtomicBool],
     weaver: &mut Weaver,
-) -> Woven
+) -> Outcome
     requires many { vec_len stages.old ≡ plan.now.predictors }
     requires done_flags { vec_len stages.old ≤ length done_flags.now }
     requires fresh { All (λ r. r ≡ []) (handed_of stages.old.items) }
@@ -65,14 +65,14 @@ pub(crate) fn weave<R: Threads + Wait, F: Feed, G: Gate>(
         match gathered {
             Ok(count) => {
                 let Ok(()) = weaver.take_all(&run[..count]) else {
-                    return Woven::Memory;
+                    return Outcome::Memory;
                 };
                 taken += count as u64;
             }
-            Err((owner, sent)) => return Woven::Stopped(owner, sent),
+            Err((owner, sent)) => return Outcome::Stopped(owner, sent),
         }
     }
-    Woven::Whole
+    Outcome::Whole
 }
 
 /// Drops the numbers of a worker that wait, and receives those that it sees in their place. Returns whether it saw any.

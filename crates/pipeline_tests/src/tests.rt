@@ -1,7 +1,6 @@
 //! Tests of plans, of predictors, and of the files that they make.
 
 mod checks;
-mod file_encoder;
 mod cube_a;
 mod gates;
 mod parallel;
@@ -11,5 +10,6 @@ mod slots;
 mod stopped_predictors;
 mod stops;
 mod tables;
+mod weaver;
 mod whole_lists;
 mod whole_weave;
