@@ -1,5 +1,5 @@
 -- The entropy coder, reading: the residuals that it has decoded, in encoding order; and what decoding a file returns.
-use Rattle.std.specs.Prelude.{ℕ, ◌≡◌, ◌⊎◌, ◌+◌, ◌^◌, ◌<◌, Bool, List, [], ◌∷◌, ◌++◌, length, Option, option_map, Result, Ok, Err, IfOk, IfErr, MatchResult}
+use Rattle.std.specs.Prelude.{ℕ, ◌≡◌, ◌⊎◌, ◌+◌, ◌^◌, ◌<◌, Bool, List, [], ◌∷◌, ◌++◌, length, Result, Ok, Err, IfOk, IfErr, MatchResult}
 use Rattle.std.specs.List.{AllByRecursion}
 use Rattle.cube_core.specs.declared.fault.Fault.{Fault}
 use Rattle.cube_core.specs.declared.fault.Fault.TheVariants.{WantOfMemory}
@@ -10,10 +10,8 @@ use Rattle.header_bits.specs.Header.{BeginsWithTable}
 use Rattle.header_bits.specs.Lawful.{IsLawful}
 use Rattle.predict_core.specs.Cubes.{IsCubeOf}
 use Rattle.sample_prediction.specs.Residual.{residuals}
-use Rattle.sample_adaptive.specs.Reading.{fault_at}
 use Rattle.sample_adaptive.specs.Given.{HasGiven as GivenBySamples, IsNext}
-use Rattle.block_adaptive.specs.Given.{given_count, HasGivenOf}
-use Rattle.block_adaptive.specs.DataSets.{capacity}
+use Rattle.block_adaptive.specs.Given.{HasGivenOf}
 use Rattle.file_decoding.specs.declared.decoder.EntropyDecoder.{EntropyDecoder}
 use Rattle.file_decoding.specs.declared.decoder.EntropyDecoder.TheVariants.{Samples, Blocks}
 use Rattle.file_format.specs.Files.{IsBody, IsFile, after_body, head_at, file_test}
@@ -22,16 +20,6 @@ use Rattle.file_format.specs.Files.{IsBody, IsFile, after_body, head_at, file_te
 abbrev pub HasGiven : Params → EntropyDecoder → List ℕ → List Bool → Type 0
 HasGiven p (Samples v) numbers bits = GivenBySamples p v numbers bits
 HasGiven p (Blocks v) numbers bits = HasGivenOf p v numbers bits
-
--- the stored fault, which each later call returns
-abbrev pub refusal_at : ℕ → EntropyDecoder → Option Fault
-refusal_at index (Samples v) = option_map (fault_at index) v.refused
-refusal_at index (Blocks v) = v.refused
-
--- a residual of band z may be read
-abbrev pub MayAsk : EntropyDecoder → ℕ → Type 0
-MayAsk (Samples v) z = z < length v.bands
-MayAsk (Blocks v) z = given_count v < capacity v.cut
 
 -- some bits were read, from which the coder decoded the residuals of the list, each below 2^D
 abbrev pub GivesAll : Params → EntropyDecoder → List ℕ → List Bool → List Bool → List Bool → List ℕ → Type 0
@@ -43,12 +31,6 @@ abbrev pub GivesMore : {X : Type 0} → (X → List ℕ) → Result X Fault → 
 GivesMore numbers_of result p numbers bits unread new left =
     MatchResult result (λ answer. GivesAll p new numbers bits unread.left left (numbers_of answer))
     (λ fault. after_body unread.count p (bits ++ unread.left) ≡ Err fault)
-
--- whichever residuals were decoded before: the next one is decoded, or the refusal is the first fault of the body
-abbrev pub GivesNumber : ℕ → ℕ → ℕ → Result ℕ Fault → EntropyDecoder → Unread → EntropyDecoder → List Bool → Type 0
-GivesNumber z t index result old unread new left =
-    (p : Params) (numbers : List ℕ) (bits : List Bool) → IsLawful p → HasGiven p old numbers bits → IsNext p numbers z t → index ≡ length numbers
-    → GivesMore (λ number. number ∷ []) result p numbers bits unread new left
 
 -- residual n + i is one of band `zs i` at raster index `ts i`, for each i < count
 abbrev pub AreEach : Params → ℕ → (ℕ → ℕ) → (ℕ → ℕ) → ℕ → Type 0

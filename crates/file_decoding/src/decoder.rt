@@ -1,14 +1,13 @@
 //! The entropy coder of an image, either of the two, as it reads: it gives the residuals in encoding order.
 
-ghost use Rattle.std.specs.Prelude.{◌≡◌, ◌+◌, ◌^◌, ◌<◌, ◌≤◌, ℕ, [], length, Err, Some, IsOk, IfOk, IfErr, OnErr};
-ghost use Rattle.cube_core.specs.declared.fault.Fault.{Fault as Refusal};
+ghost use Rattle.std.specs.Prelude.{◌≡◌, ◌+◌, ◌^◌, ◌<◌, ◌≤◌, ℕ, [], length, IsOk, IfOk, IfErr};
 ghost use Rattle.cube_core.specs.declared.fault.Fault.TheVariants.{WantOfMemory};
 ghost use Rattle.header_bits.specs.Lawful.{IsLawful};
 ghost use Rattle.block_adaptive.specs.Settings.{IsBlock};
 ghost use Rattle.block_adaptive.specs.Given.{given_count};
 ghost use Rattle.block_adaptive.specs.DataSets.{capacity};
 ghost use Rattle.file_decoding.specs.declared.decoder.EntropyDecoder.TheVariants.{Blocks};
-ghost use Rattle.file_decoding.specs.Decoding.{HasGiven, MayAsk, MayAskAll, MayAskColumn, GivesNumber, GivesEach, GivesRun, GivesColumn, refusal_at};
+ghost use Rattle.file_decoding.specs.Decoding.{HasGiven, MayAskAll, MayAskColumn, GivesEach, GivesRun, GivesColumn};
 
 use block_adaptive::block_reader::BlockReader;
 use cube_core::fault::Fault;
@@ -38,27 +37,6 @@ impl EntropyDecoder {
         match params.coder {
             Coder::Sample { .. } => Ok(EntropyDecoder::Samples(Stats::new(alloc, params)?)),
             Coder::Block { .. } => Ok(EntropyDecoder::Blocks(BlockReader::new(params))),
-        }
-    }
-
-    /// Returns the next residual of the body, which is number `t` of band `z` and is at `index` in encoding
-    /// order.
-    ///
-    /// Fewer were returned than there are samples. Where the bits encode none, it returns the first fault of the body:
-    /// `Truncated`, `BadCode` with the index, `BadOption` or `RunPastSegment`. Then the bits that are left are as
-    /// before, and every later call returns the same, a `BadCode` with its own index. It allocates nothing.
-    #[inline(always)]
-    pub fn next(&mut self, z: u32, t: u64, index: u64, reader: &mut BitReader) -> Result<u16, Fault>
-        requires { MayAsk self.old z }
-        ensures given { GivesNumber z t index result self.old reader.old self.new reader.new.left }
-        ensures again { (fault : Refusal) → refusal_at index self.old ≡ Some fault → result ≡ Err fault }
-        ensures kept { IfErr result (λ fault. refusal_at index self.new ≡ Some fault) }
-        ensures same { OnErr result (reader.new ≡ reader.old) }
-        ensures count { reader.new.count ≡ reader.old.count }
-    {
-        match self {
-            EntropyDecoder::Samples(stats) => stats.get_at(z, t, index, reader),
-            EntropyDecoder::Blocks(blocks) => blocks.next(reader),
         }
     }
 
