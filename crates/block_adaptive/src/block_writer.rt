@@ -58,9 +58,8 @@ impl Model for BlockWriter {
 }
 
 impl BlockWriter {
-    /// Returns a writer of an image's residuals, none of which was taken yet. It allocates nothing.
-    ///
-    /// The parameters are lawful, and for this coder.
+    /// Returns a writer of an image's residuals, none of which was taken yet. The parameters are lawful, and for this coder. It allocates
+    /// nothing.
     pub fn new(params: &Params) -> BlockWriter
         requires { AreForBlocks params.now }
         ensures cut { result.cut ≡ cut_by params.now }
@@ -214,9 +213,8 @@ impl BlockWriter {
 
     /// Ends the body: appends all that is held, with the block begun filled with zeros.
     ///
-    /// All residuals were taken. It allocates only if they end inside a block, and no more than twice the bits written then. Returns
-    /// `WantOfMemory` if the allocation fails, or if there would be more than 2^63 bits; then nothing was changed, and the call may
-    /// be repeated.
+    /// All residuals were taken. It allocates only if they end inside a block, at most twice the bits written then. Returns
+    /// `WantOfMemory`, with nothing changed, if the allocation fails or there would be more than 2^63 bits; the call may be repeated.
     pub fn end(&mut self, writer: &mut BitWriter) -> Result<(), Fault>
         ensures ended { OnOk result (EndsBody self.old writer.old.bits writer.new.bits) }
         ensures past { OnOk result (self.new ≡ ended self.old) }
@@ -233,8 +231,7 @@ impl BlockWriter {
         self.pack(&block[..size], self.total, writer)
     }
 
-    /// Takes a whole block with this sum in place of the values held, and appends the part of the body that is
-    /// then known.
+    /// Takes a whole block with this sum in place of the values held, and appends the part of the body that is then known.
     #[inline(never)]
     fn pack(&mut self, block: &[u16], total: u32, writer: &mut BitWriter) -> Result<(), Fault>
         requires whole { length block.now ≡ self.old.cut.size }
