@@ -7,6 +7,7 @@ No contract can refuse a function that returns `WantOfMemory` without need, or a
 greatest value here, in each order that the program treats differently, and some scenes have more than 2^24 or 2^26 samples.
 """
 
+import os
 import random
 import sys
 import tempfile
@@ -68,6 +69,9 @@ def enough(count, size):
     return (3 * size + 2) * count + (8 << 20)
 
 
+# The memory in which the header of a file of any length is read: 2^22 bytes, those of the program, and what the system's libraries take.
+LITTLE = 32 << 20
+
 # The memory that threads need in addition: stacks, and what the C library reserves for each.
 OF_THREADS = 512 << 20
 
@@ -106,8 +110,11 @@ def great_refusals(room):
         room.expect(name, room.run("compress", *words, "--coder", coder, "raw", "file"), (0, b"", ""))
         told_of = room.run("inspect", read="file")
         room.expect(f"{name}, inspected", (told_of[0], b"\nheader 19\n" in told_of[1], told_of[2]), (0, True, ""))
-        room.expect(f"{name}, a last sample of nine bits", room.run("expand", "--bytes", 1, "file", "none"), (2, b"", f"ccsds: 13 SampleRange {last}\n"))
         file = room.read("file")
+        os.truncate(room.path("file"), 3 << 30)
+        room.expect(f"{name} and zeros to 3 GB, inspected in little memory", room.run("inspect", read="file", limit=LITTLE), told_of)
+        room.write("file", file)
+        room.expect(f"{name}, a last sample of nine bits", room.run("expand", "--bytes", 1, "file", "none"), (2, b"", f"ccsds: 13 SampleRange {last}\n"))
         room.write("file", file[:-2])
         room.expect(f"{name}, cut", room.run("expand", "file", "none"), (2, b"", f"ccsds: 6 Truncated {8 * len(file) - 16}\n"))
         room.write("file", file + b"\0")

@@ -1,3 +1,4 @@
+pub mod Inspecting
 pub mod Planned
 pub mod Runs
 pub mod Showing

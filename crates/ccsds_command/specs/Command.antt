@@ -13,7 +13,7 @@ use Rattle.command_devices.specs.Reading.{ToldAsRead, file_limit}
 use Rattle.command_devices.specs.Writing.{ToldAsWrite}
 use Rattle.ccsds_command.specs.Compress.{Compresses, IsCompressFault, raw_limit}
 use Rattle.ccsds_command.specs.Expand.{Expands, IsExpandFault}
-use Rattle.ccsds_command.specs.Inspect.{Inspects, IsInspectFault}
+use Rattle.ccsds_command.specs.Inspect.{Inspects, IsInspectFault, header_limit}
 use Rattle.ccsds_command.specs.Piped.{HasNoPlan, IsPipedFault, MayBePlanned}
 use Rattle.ccsds_command.specs.Show.{Shows, IsShowFault, show_limit}
 
@@ -95,14 +95,14 @@ abbrev pub limit_of : Settings → List ℕ → ℕ
 limit_of Show = show_limit
 limit_of (Compress settings from to) = λ _. raw_limit settings
 limit_of (Expand layout from to) = λ _. file_limit
-limit_of Inspect = λ _. file_limit
+limit_of Inspect = λ _. header_limit
 
--- the command reads a coded file
+-- the command reads a coded file whole
 abbrev pub ReadsFile : Settings → Type 0
 ReadsFile Show = ⊥
 ReadsFile (Compress settings from to) = ⊥
 ReadsFile (Expand layout from to) = ⊤
-ReadsFile Inspect = ⊤
+ReadsFile Inspect = ⊥
 
 -- where memory is refused for a coded file, fewer bytes came than make it too long
 abbrev pub IsUnfilled : Settings → Option (List ℕ) → Option (List ℕ) → Fault → Type 0
