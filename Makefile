@@ -5,7 +5,7 @@ PROGRAM = crates/ccsds/out/ccsds
 # has 4 GB for, and at least one.
 LANES = $(shell awk -v most="$$(nproc)" '/^MemAvailable/ { n = int($$2 / 4000000); print n < 1 ? 1 : n < most ? n : most }' /proc/meminfo)
 
-SCRIPTS = $(addprefix tests/, command.sh limits.sh options.py sizes.py pipelines.py refused.py guards.py definitions.py names.py fuzz)
+SCRIPTS = $(addprefix tests/, command.sh limits.sh options.py sizes.py pipelines.py refused.py guards.py definitions.py names.py fuzz.py)
 
 .PHONY: all try show install test attack interop rows bench beside polite plain $(SCRIPTS)
 
@@ -51,15 +51,15 @@ rows: all plain
 # Compares the speed of the benchmark program with that of plain Rust, and prints a table.
 bench: plain
 	@tools/build.py speed
-	bench/compare
+	bench/compare.py
 
 # Compares predictors in threads with one thread, on idle processors and on busy ones.
 polite: all
-	bench/polite
+	bench/polite.py
 
 # Compares the program with common compressors, on a scene that resembles one of an imaging spectrometer.
 beside: all plain
-	bench/beside
+	bench/beside.py
 
 plain:
 	@cd bench && cargo build --release --quiet

@@ -14,8 +14,6 @@ import sys
 from pathlib import Path
 
 TOP = Path(__file__).resolve().parent.parent
-HISTORY = {"WRONG_BODIES.md", "GUARDS.md"}
-"""Pages that quote lines of code, or what was there once."""
 CODE = {".rt", ".antt", ".py", ".sh", ".c", ".rs", ".toml", ".txt", ".edit", ""}
 QUOTED = re.compile(r"(?<!`)`([^`\n]+)`(?!`)")
 PATH = re.compile(r"(?:docs|tests|tools|crates|bench|samples)(?:/[\w.-]+)+/?")
@@ -55,7 +53,7 @@ def unknown(quoted, known):
 def main():
     files = tracked()
     known, passed, failed = words_of_code(files), 0, 0
-    for page in (it for it in files if it.suffix == ".md" and it.name not in HISTORY):
+    for page in (it for it in files if it.suffix == ".md"):
         for number, line in enumerate(page.read_text(encoding="utf-8").splitlines(), 1):
             for quoted in QUOTED.findall(line):
                 if why := unknown(quoted, known):

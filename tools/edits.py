@@ -1,8 +1,7 @@
 #!/usr/bin/env python3
-"""Prints docs/GUARDS.md: for each crate and promise, the wrong code that guards it, with the lines that it changes.
+"""Prints the wrong code that guards each promise, crate by crate, with the lines that it changes.
 
-    tools/edits.py [CRATE ...]    prints the page, or its sections on these crates
-    tools/edits.py --write        rewrites the page
+    tools/edits.py [CRATE ...]    prints all of it, in Markdown, or that of these crates
 
 Wrong code has two homes: the edits in `must-fail/`, which the gate tries, and those in `slips/`, which `make attack` tries too. A
 promise is a row of docs/PROMISES.md, with its name in bold. The first line of an edit names what it guards: `guards: NAME`, with `; `
@@ -19,11 +18,10 @@ from typing import NamedTuple
 TOP = Path(__file__).resolve().parent.parent
 CRATES = TOP / "crates"
 PROMISES = TOP / "docs" / "PROMISES.md"
-GUARDS = TOP / "docs" / "GUARDS.md"
 HEADING = re.compile(r"## `(\w+)`")
 ROW = re.compile(r"\| \*\*([^*/;]+)\*\* \|(?:[^|]*\|){2} ([^|]*) \|")
 WIDTH = 160
-"""The most characters of a line of the page."""
+"""The most characters of a line that is printed."""
 KEPT = 24
 """The number of common characters that are kept on each side where two lines of code are shortened."""
 
@@ -32,10 +30,9 @@ GATE, SLIPS = HOMES = ("must-fail", "slips")
 
 HEAD = """# Guards
 
-What guards the promises of [PROMISES.md](PROMISES.md): edits, each of which turns lines of a source into wrong ones, which the prover has to
+What guards the promises of docs/PROMISES.md: edits, each of which turns lines of a source into wrong ones, which the prover has to
 refuse. The gate tries those in **bold**, `crates/CRATE/must-fail/EDIT.edit`; `make attack` tries the others too, `crates/CRATE/slips/EDIT.edit`.
-`tools/edits.py --write` writes this page from the edits. In it … stands for code that both lines have, or for the rest of a long one, and
-*nothing* for a line that is left out.
+Here … stands for code that both lines have, or for the rest of a long one, and *nothing* for a line that is left out.
 """
 
 
@@ -144,7 +141,7 @@ def faults():
 
 
 def shortened(old, new):
-    """Returns two lines of code, without most of their common beginning and end where they don't fit into one line of the page."""
+    """Returns two lines of code, without most of their common beginning and end where they don't fit into one line."""
     if len(old) + len(new) <= WIDTH - 12:
         return old, new
     front = len(os.path.commonprefix([old, new]))
@@ -198,10 +195,7 @@ def main(words):
     wrong = faults()
     if wrong:
         sys.exit("\n".join(f"edits.py: {line}" for line in wrong))
-    if words == ["--write"]:
-        GUARDS.write_text(page(), encoding="utf-8")
-    else:
-        print(page(words), end="")
+    print(page(words), end="")
 
 
 if __name__ == "__main__":

@@ -9,7 +9,7 @@ use Rattle.cube_core.specs.Shape.{sample_count}
 use Rattle.cube_core.specs.Order.{IsOrder, places}
 use Rattle.cube_core.proofs.Orders.{length-places}
 use Rattle.header_bits.specs.declared.params.Params.{Params}
-use Rattle.lane_workers.specs.Stages.{Standing}
+use Rattle.lane_workers.specs.Stages.{StageState}
 use Rattle.file_format.specs.File.{file_of_residuals}
 use Rattle.coder_pipe.specs.Plans.{PlanState, IsPlan}
 use Rattle.file_encoding.specs.Own.{owners, part}
@@ -35,7 +35,7 @@ one_gate may_stop gate items feeds now gates q n same all long at =
     rw (← same) (at.0, rw here at stop, λ f. (at.1 f gate).1)
 
 -- as many workers as before, where the feeds are the same
-pub as_many : {F G : Type 0} (was now : Vec (Standing F G) Global) → feeds_of now.items ≡ feeds_of was.items → vec_len now ≡ vec_len was
+pub as_many : {F G : Type 0} (was now : Vec (StageState F G) Global) → feeds_of now.items ≡ feeds_of was.items → vec_len now ≡ vec_len was
 as_many was now same =
     let feeds = ap (λ (fs : List _). length fs) same in
     omega (arith, feeds, length-map now.items (λ s. s.feed), length-map was.items (λ s. s.feed), now.ok.0, was.ok.0)
@@ -55,7 +55,7 @@ nothing_left p deal w handed lawful h =
     h.woven.coded.left ∙ drop_of_length-le (places p.shape p.order) (omega (arith, h.long, length-places p.shape p.order lawful))
 
 -- and each worker has handed on as many as its feed has
-pub handed_whole : {F G : Type 0} (predictor : F → ℕ) (items : F → List ℕ) (plan : PlanState) (w : WeaverState) (ss : List (Standing F G)) (feeds : List F)
+pub handed_whole : {F G : Type 0} (predictor : F → ℕ) (items : F → List ℕ) (plan : PlanState) (w : WeaverState) (ss : List (StageState F G)) (feeds : List F)
     → IsPlan plan → AreFeeds predictor items plan feeds → feeds_of ss ≡ feeds → IsWoven plan.params plan.deal w (handed_of ss) (sample_count plan.params.shape)
     → All (λ s. length s.handed ≡ length (items s.feed)) ss
 handed_whole predictor items plan w ss feeds lawful lists same h k d lt =

@@ -1,18 +1,18 @@
 -- What the weaver has taken of the residuals that the workers handed on.
 use Rattle.std.specs.Prelude.{◌≡◌, ℕ, ◌<◌, List, [], ◌++◌, map, length, slice_index_or}
 use Rattle.header_bits.specs.declared.params.Params.{Params}
-use Rattle.lane_workers.specs.Stages.{Standing}
+use Rattle.lane_workers.specs.Stages.{StageState}
 use Rattle.file_encoding.specs.Own.{owners, part}
 use Rattle.coder_pipe.specs.Woven.{WeaverState, HasWoven}
 
 module _ {F G : Type 0} where
-  abbrev pub feeds_of : List (Standing F G) → List F
+  abbrev pub feeds_of : List (StageState F G) → List F
   feeds_of ss = map (λ s. s.feed) ss
 
-  abbrev pub gates_of : List (Standing F G) → List G
+  abbrev pub gates_of : List (StageState F G) → List G
   gates_of ss = map (λ s. s.gate) ss
 
-  abbrev pub handed_of : List (Standing F G) → List (List ℕ)
+  abbrev pub handed_of : List (StageState F G) → List (List ℕ)
   handed_of ss = map (λ s. s.handed) ss
 
 -- the weaver has taken `count` residuals, and of each predictor just those that it handed on

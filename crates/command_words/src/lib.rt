@@ -2,7 +2,7 @@
 #![tactic(auto)]
 
 pub mod command_line;
-mod found;
+mod option_values;
 mod options;
 pub mod settings;
 pub mod words;

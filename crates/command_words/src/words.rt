@@ -20,7 +20,7 @@ ghost use Rattle.command_words.specs.Reading.{AreFilesOf, AreParamsOf, AreSizesO
 ghost use Rattle.command_words.specs.Reading.{IsSampleOf, raw_order_word, rows};
 ghost use Rattle.command_words.specs.Words.{texts, AreOfOptions, AreTaken, Ask, AskForNone, BeginWith};
 
-use crate::found::{exponent, flag, number, number_in, word};
+use crate::option_values::{exponent, flag, number, number_in, word};
 use crate::options::{BYTES, PREDICTORS, SLOTS, compress_command, expand_command};
 use clap::error::ErrorKind;
 use clap::{ArgMatches, Command, Error};

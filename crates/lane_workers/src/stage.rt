@@ -27,9 +27,9 @@ pub struct Stage<F: Feed, G: Gate> {
 }
 
 impl<F: Feed, G: Gate> Model for Stage<F, G> {
-    ghost use Rattle.lane_workers.specs.Stages.{Standing};
+    ghost use Rattle.lane_workers.specs.Stages.{StageState};
 
-    ghost Value = { Standing F G };
+    ghost Value = { StageState F G };
 
     ghost use Rattle.lane_workers.specs.States.{standing_of};
 

@@ -3,7 +3,7 @@
 //! `speed SUBJECT` prints a line for each measured loop in each of five rounds: its name, how many
 //! samples it processed in how many nanoseconds, and a checksum of its results. Without a subject
 //! all loops process little data, and it prints only names and checksums. The project in `bench/`
-//! prints the same for plain Rust, but for the pipeline, and `bench/compare` compares the two.
+//! prints the same for plain Rust, but for the pipeline, and `bench/compare.py` compares the two.
 #![tactic(auto)]
 
 mod block_coder;

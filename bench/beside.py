@@ -1,8 +1,8 @@
 #!/usr/bin/env python3
 """Compares the ratio and the speed of `ccsds` with those of common compressors on a scene, on one thread each.
 
-    bench/beside                                a seeded scene, made by the plain Rust program of bench/
-    bench/beside OPTIONS RAW                    a scene of your own, with the options that `ccsds compress` takes for it
+    bench/beside.py                                a seeded scene, made by the plain Rust program of bench/
+    bench/beside.py OPTIONS RAW                    a scene of your own, with the options that `ccsds compress` takes for it
 
 Prints a table in Markdown: the program, the raw bytes divided by the coded bytes, and the millions of raw bytes a second of
 compressing and of expanding. Each speed is the best of three turns, or of TURNS in the environment, with files in a warm cache; no turn

@@ -1,7 +1,7 @@
 use Rattle.std.proofs.Common.{◌∙◌}
 use Rattle.clap.specs.Matches.{found_of}
 use Rattle.clap.proofs.WalkLemmas.{one_text-rows}
-use Rattle.command_words.proofs.found.flag.Goals as goal
+use Rattle.command_words.proofs.option_values.flag.Goals as goal
 
 pub returns : goal.returns
 returns c =

@@ -1,7 +1,7 @@
 use Rattle.std.proofs.Common.{refl, arith}
 use Rattle.clap.specs.Matches.{found_of}
 use Rattle.command_words.proofs.Numbers.{some_number, same_number, no_number}
-use Rattle.command_words.proofs.found.between.Goals as goal
+use Rattle.command_words.proofs.option_values.between.Goals as goal
 
 pub returns-in-Some-clause-read : goal.returns-in-Some-clause-read
 returns-in-Some-clause-read c =

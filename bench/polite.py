@@ -1,7 +1,7 @@
 #!/usr/bin/env python3
 """Compares `ccsds compress` by predictors in threads with one thread, on idle processors and on busy ones.
 
-    bench/polite [PROGRAM..]         the programs to measure; without any, the one that `make` builds
+    bench/polite.py [PROGRAM..]         the programs to measure; without any, the one that `make` builds
 
 For each program and each order of the encoding (by line, by pixel, by band) it compresses a seeded scene on one thread, and with
 `--predictors N`. It does so beside nothing, and then beside as many processes that only spin as there are processors. It prints a

@@ -1,4 +1,4 @@
-//! What was found for an option: its number, its word, or whether it was given.
+//! The values of options: a number, a word, or whether a flag was given.
 
 ghost use Rattle.std.specs.Prelude.{◌≡◌, ◌≤◌, ℕ, ℤ, IfOk, IfErr, option_map};
 ghost use Rattle.cube_core.specs.declared.fault.Fault.TheVariants.{Usage};

@@ -1,7 +1,7 @@
 #!/usr/bin/env python3
 """Runs the built program on damaged files, and compares its answers with those of a model.
 
-    tests/fuzz [SEED [COUNT [PROGRAM]]]
+    tests/fuzz.py [SEED [COUNT [PROGRAM]]]
 
 The first files are the worked files with one bit flipped, once for each bit. Then come COUNT files, damaged, cut, lengthened
 or random; SEED alone determines them. `expand` and `inspect` run on each file in 512 MB of memory, for at most a second of
@@ -258,7 +258,7 @@ def main(seed="1", count="20000", program=PROGRAM):
                 wrong += len(complaints)
                 for what in complaints:
                     print(f"FAILED: {what}")
-    print(f"fuzz: seed {seed}, {done} files, of which {expanded} were expanded, {wrong} wrong answers")
+    print(f"fuzz.py: seed {seed}, {done} files, of which {expanded} were expanded, {wrong} wrong answers")
     sys.exit(wrong > 0)
 
 

@@ -1,7 +1,7 @@
 use Rattle.clap.specs.Matches.{found_of}
 use Rattle.clap.specs.Walk.{rows_of}
 use Rattle.command_words.proofs.Refused.{passed, no_exponent}
-use Rattle.command_words.proofs.found.exponent.Goals as goal
+use Rattle.command_words.proofs.option_values.exponent.Goals as goal
 
 pub returns-in_err-code-clause-refused : goal.returns-in_err-code-clause-refused
 returns-in_err-code-clause-refused c =
