@@ -17,6 +17,7 @@ use Rattle.header_bits.specs.declared.params.Coder.{Coder}
 use Rattle.header_bits.specs.declared.params.Coder.TheVariants.{Sample, Block}
 use Rattle.header_bits.specs.Bits.{bits_of_bytes}
 use Rattle.header_bits.specs.Reading.{Reading}
+use Rattle.header_bits.specs.Header.{header_at}
 use Rattle.header_bits.specs.Parts.{fine, IsExact}
 use Rattle.header_bits.specs.Lawful.{IsLawful, IsCoder}
 use Rattle.header_bits.proofs.Exact.{one_spelling}
