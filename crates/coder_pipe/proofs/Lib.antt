@@ -1,5 +1,4 @@
 pub mod Heads
-pub mod LaneTakings
 pub mod Parts
 pub mod Pipelines
 pub mod Planning

@@ -1,3 +1,4 @@
+pub mod LaneLaws
 pub mod Piping
 pub mod Plans
 pub mod Sends

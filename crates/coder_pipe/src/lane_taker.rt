@@ -3,7 +3,7 @@
 ghost use Rattle.std.specs.Prelude.{◌≡◌, true, false, IsTrue, IsFalse};
 ghost use Rattle.lane_workers.specs.Feeds.{Keeps};
 ghost use Rattle.coder_pipe.specs.Sends.{MaySend, Sends};
-ghost use Rattle.coder_pipe.proofs.LaneTakings.{sendings_are};
+ghost use Rattle.coder_pipe.specs.LaneLaws.{sendings_are};
 
 use band_rings::sender::LaneSender;
 use file_encoding::taker::Taker;
@@ -50,7 +50,8 @@ impl<'r, 'g, R: Wait, G: Gate> LaneTaker<'r, 'g, R, G> {
         ensures keeps { Keeps (G.may_stop self.entry.gate) self.entry.predictor self.entry.taken self.entry.lane result }
         ensures stopped { IsTrue self.entry.stopped → IsFalse result.whole }
     {
-        self.sender.end(self.rt)
+        let LaneTaker { rt, sender } = self;
+        sender.end(rt)
     }
 }
 

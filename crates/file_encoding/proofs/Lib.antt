@@ -1,5 +1,4 @@
 pub mod Coders
-pub mod CodingTakings
 pub mod Columns
 pub mod Encoding
 pub mod Endings

@@ -1,4 +1,5 @@
 pub mod Coding
+pub mod CodingLaws
 pub mod Codings
 pub mod Ends
 pub mod Own

@@ -4,7 +4,7 @@ ghost use Rattle.std.specs.Prelude.{ℕ, Bool, List};
 ghost use Rattle.file_encoding.specs.Codings.{Takes};
 ghost use Rattle.file_encoding.specs.Ends.{MayCodeAll};
 ghost use Rattle.file_encoding.specs.Takings.{AreTakings};
-ghost use Rattle.file_encoding.proofs.CodingTakings.{codings_are};
+ghost use Rattle.file_encoding.specs.CodingLaws.{codings_are};
 
 use crate::file_encoder::FileEncoder;
 

@@ -2,7 +2,7 @@ use Rattle.std.proofs.Common.{◌≡◌, ◌++◌, ℕ, Bool, List, [], true, Is
 use Rattle.std.proofs.lemmas.List.{take_rest}
 use Rattle.lane_workers.specs.Runs.{RunSending}
 use Rattle.coder_pipe.specs.Sends.{Sends}
-use Rattle.coder_pipe.proofs.LaneTakings.{sendings_are}
+use Rattle.coder_pipe.specs.LaneLaws.{sendings_are}
 use Rattle.file_encoding.proofs.Sending.{none_yet, stepped, run_piece}
 use Rattle.coder_pipe.proofs.lane_taker.LaneTakerTaker.take.Goals as goal
 
@@ -15,8 +15,8 @@ sent_some same taken ready stopped =
 pub returns-then-not-goes_on : goal.returns-then-not-goes_on
 returns-then-not-goes_on g c =
     let told = c.send_some-first.ensures in
-    (stepped sendings_are c.loop-first.invariant.sent c.requires (run_piece c.args.residuals.now c.loop-first.first c.send_some-first.result) refl).cut _ _ refl
-    (sent_some told.same (rw take_rest at told.taken) (λ h. absurd (cc)) (λ h. c.goes_on.ensures.stopped c.if-not-goes_on.true))
+    rw (← c.self.view_is) ((stepped sendings_are c.loop-first.invariant.sent (rw (← c.self.view_is) at c.requires) (run_piece c.args.residuals.now c.loop-first.first c.send_some-first.result) refl).cut _ _ refl
+    (sent_some told.same (rw take_rest at told.taken) (λ h. absurd (cc)) (λ h. c.goes_on.ensures.stopped c.if-not-goes_on.true)))
 
 pub loop-first-preserved : goal.loop-first-preserved
 loop-first-preserved g c =
@@ -29,4 +29,4 @@ loop-first-preserved g c =
     }
 
 pub loop-first-init : goal.loop-first-init
-loop-first-init g c = record { within = omega arith; sent = none_yet sendings_are c.requires }
+loop-first-init g c = record { within = omega arith; sent = none_yet sendings_are (rw (← c.self.view_is) at c.requires) }

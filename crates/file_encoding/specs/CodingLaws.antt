@@ -1,4 +1,4 @@
--- File encoders take lists one after another.
+-- File encoders take lists one after another. It stands among the definitions since an implementation states its laws by them alone.
 use Rattle.std.proofs.Common.{◌^◌, ◌<◌, ℕ, Bool, true, false, List, [], ◌++◌, refl, sym, subst, append-nil, append_assoc, length-append, arith}
 use Rattle.header_bits.proofs.Items.{all_first, all_last}
 use Rattle.file_encoding.specs.Ends.{FileEncoderState, HasCoded, MayCodeAll}

@@ -1,4 +1,4 @@
--- Senders take lists one after another.
+-- Senders take lists one after another. It stands among the definitions since an implementation states its laws by them alone.
 use Rattle.std.proofs.Common.{◌≡◌, ◌+◌, ℕ, Bool, true, false, List, [], ◌++◌, length, refl, sym, ap, ◌∙◌, append-nil, append_assoc}
 use Rattle.std.proofs.Common.{length-append, arith}
 use Rattle.std.proofs.lemmas.List.{nil_from_length}
