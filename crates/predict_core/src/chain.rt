@@ -59,7 +59,6 @@ fn follow<const N: usize>(
         weights,
         differences,
         steps.omega,
-        steps.exponent,
         step_shift(steps.bits, steps.exponent),
         sign_mask_of_error(own, predicted),
     );

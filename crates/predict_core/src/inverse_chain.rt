@@ -31,7 +31,7 @@ use crate::settings::Settings;
 use crate::west::{put_west, sum_with_west};
 use cube_core::cube::Cube;
 use sample_prediction::differences::west_of;
-use sample_prediction::exponent::{exponent_at, places_alike};
+use sample_prediction::exponent::places_alike;
 use sample_prediction::prediction::predicted_difference;
 use sample_prediction::predictor::MOST_COMPONENTS;
 use sample_prediction::residual::{prediction_of, unmap_by_center};
@@ -225,22 +225,12 @@ fn sample_there<const N: usize, const WRAPS: bool>(
     cube.prove_is_cube();
     let predictor = &settings.predictor;
     let range = &settings.range;
-    let t = y as u64 * settings.columns as u64 + x as u64;
     let mut differences = *components;
     put_west(settings, cube, y, x, west, &mut differences);
     let whole = 4 * range.smin + sum as i32;
     let part = predicted_difference::<N, WRAPS>(predictor, range, whole, weights, &differences);
     let found = sample_by_part(range, part, sum, delta);
-    // Only the proof needs the exponent: the shift holds all of it.
-    let exponent = exponent_at(predictor, settings.columns, range.bits, t);
-    update_by::<N>(
-        weights,
-        &differences,
-        predictor.omega,
-        exponent,
-        shift,
-        found.1,
-    );
+    update_by::<N>(weights, &differences, predictor.omega, shift, found.1);
     found.0
 }
 

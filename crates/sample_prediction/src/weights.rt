@@ -120,10 +120,10 @@ fn update_first<const N: usize>(
 {
     if exponent < 0 {
         let shift = left_shift((-1 - exponent) as u32);
-        update_by::<N>(weights, differences, omega, exponent, shift, sign_mask);
+        update_by::<N>(weights, differences, omega, shift, sign_mask);
     } else {
         let shift = right_shift(exponent as u32);
-        update_by::<N>(weights, differences, omega, exponent, shift, sign_mask);
+        update_by::<N>(weights, differences, omega, shift, sign_mask);
     }
 }
 
@@ -134,12 +134,15 @@ fn update_first<const N: usize>(
 /// places that finds the shift beforehand has no branch.
 #[derive(Clone, Copy)]
 pub struct StepShift {
+    /// ρ.
+    pub exponent: i32,
     left: u32,
     rounding: i32,
     right: u32,
     ghost left_in: { left ≤ 22 },
     ghost rounding_in: { (pos 0 ≤ℤ rounding) × (rounding ≤ℤ pos 2097152) },
     ghost right_in: { right ≤ 22 },
+    ghost steps: { (a : ℤ) → floor_div (a *ℤ pos (2 ^ left) +ℤ rounding) (2 ^ right) ≡ step exponent a },
 }
 
 impl StepShift {
@@ -155,7 +158,7 @@ pub fn step_shift(bits: u32, exponent: i32) -> StepShift
     requires bits_in { (2 ≤ bits) × (bits ≤ 16) }
     requires exponent_least { (pos bits -ℤ pos 25) ≤ℤ exponent }
     requires exponent_most { exponent ≤ℤ pos 21 }
-    ensures steps { (a : ℤ) → floor_div (a *ℤ pos (2 ^ result.left) +ℤ result.rounding) (2 ^ result.right) ≡ step exponent a }
+    ensures exponent { result.exponent ≡ exponent }
     ensures room { bits + result.left ≤ 24 }
 {
     if exponent < 0 {
@@ -169,10 +172,11 @@ pub fn step_shift(bits: u32, exponent: i32) -> StepShift
 #[inline(always)]
 fn left_shift(by: u32) -> StepShift
     requires { by ≤ 22 }
-    ensures steps { (a : ℤ) → floor_div (a *ℤ pos (2 ^ result.left) +ℤ result.rounding) (2 ^ result.right) ≡ step (negsuc by) a }
+    ensures exponent { result.exponent ≡ negsuc by }
     ensures left { result.left ≡ by }
 {
     StepShift {
+        exponent: -1 - by as i32,
         left: by,
         rounding: 0,
         right: 0,
@@ -183,64 +187,47 @@ fn left_shift(by: u32) -> StepShift
 #[inline(always)]
 fn right_shift(by: u32) -> StepShift
     requires { by ≤ 21 }
-    ensures steps { (a : ℤ) → floor_div (a *ℤ pos (2 ^ result.left) +ℤ result.rounding) (2 ^ result.right) ≡ step (pos by) a }
+    ensures exponent { result.exponent ≡ pos by }
     ensures left { result.left ≡ 0 }
 {
     StepShift {
+        exponent: by as i32,
         left: 0,
         rounding: 1i32 << by,
         right: by + 1,
     }
 }
 
-/// Updates the first `N` weights by steps at an exponent, whose shift is given. `sign_mask` is all ones if the error is negative,
-/// else 0.
+/// Updates the first `N` weights by steps of a shift. `sign_mask` is all ones if the error is negative, else 0.
 #[inline(always)]
 pub fn update_by<const N: usize>(
     weights: &mut [i32; MOST_COMPONENTS],
     differences: &[i32; MOST_COMPONENTS],
     omega: u32,
-    exponent: i32,
     shift: StepShift,
     sign_mask: i32,
 )
     requires few { N ≤ 18 }
     requires sign_mask_in { (negsuc 0 ≤ℤ sign_mask) × (sign_mask ≤ℤ pos 0) }
     requires omega_in { omega ≤ 19 }
-    requires steps { (a : ℤ) → floor_div (a *ℤ pos (2 ^ shift.left) +ℤ shift.rounding) (2 ^ shift.right) ≡ step exponent a }
     requires weights_in { AllWithin (2 ^ (omega + 2)) weights.old }
     requires differences_in { AllWithin (2 ^ (26 - shift.left)) differences.now }
-    ensures value { take N weights.new ≡ updated_weights omega exponent (int_lt sign_mask (pos 0)) (take N weights.old) (take N differences.now) }
+    ensures value { take N weights.new ≡ updated_weights omega shift.exponent (int_lt sign_mask (pos 0)) (take N weights.old) (take N differences.now) }
     ensures bound { AllWithin (2 ^ (omega + 2)) weights.new }
 {
     for i in 0..N {
-        weights[i] = moved(
-            omega,
-            exponent,
-            shift,
-            sign_mask,
-            weights[i],
-            differences[i],
-        );
+        weights[i] = moved(omega, shift, sign_mask, weights[i], differences[i]);
     }
 }
 
 /// Returns one weight after an error.
 #[inline(always)]
-fn moved(
-    omega: u32,
-    exponent: i32,
-    shift: StepShift,
-    sign_mask: i32,
-    weight: i32,
-    difference: i32,
-) -> i32
+fn moved(omega: u32, shift: StepShift, sign_mask: i32, weight: i32, difference: i32) -> i32
     requires sign_mask_in { (negsuc 0 ≤ℤ sign_mask) × (sign_mask ≤ℤ pos 0) }
     requires omega_in { omega ≤ 19 }
-    requires steps { (a : ℤ) → floor_div (a *ℤ pos (2 ^ shift.left) +ℤ shift.rounding) (2 ^ shift.right) ≡ step exponent a }
     requires weight_in { unsigned_abs weight ≤ 2 ^ 21 }
     requires difference_in { unsigned_abs difference ≤ 2 ^ (26 - shift.left) }
-    ensures value { result ≡ updated omega exponent (int_lt sign_mask (pos 0)) weight difference }
+    ensures value { result ≡ updated omega shift.exponent (int_lt sign_mask (pos 0)) weight difference }
     ensures bound { unsigned_abs result ≤ 2 ^ (omega + 2) }
 {
     // Both weights are computed before the error is known, so that the next prediction waits only for the choice.

@@ -6,7 +6,6 @@ use Rattle.sample_prediction.specs.Chain.{scaled_by_difference}
 use Rattle.sample_prediction.specs.Differences.{difference_vector}
 use Rattle.sample_prediction.specs.LocalSum.{local_sum}
 use Rattle.sample_prediction.specs.Prediction.{scaled_by}
-use Rattle.sample_prediction.specs.Weights.{step}
 use Rattle.predict_core.proofs.Chains.{scaled_from_room, moved_from_room}
 use Rattle.predict_core.proofs.InverseRuns.{vector_filled}
 use Rattle.predict_core.proofs.Inverting.{scaled_put, moved_put}
@@ -47,12 +46,6 @@ update_by-requires-clause-differences_in g c =
     let bits = same_bits g (goal.at.update_by-requires-clause-differences_in g c).Start in
     within_room s.range.bits c.args.shift.left c.put_west.new.components (rw bits c.requires.steps.room) (small g d)
 
-pub update_by-requires-clause-steps : goal.update_by-requires-clause-steps
-update_by-requires-clause-steps g c a =
-    let exponent = rw (same_bits g (goal.at.update_by-requires-clause-steps g c).Start, ← c.requires.columns) at c.exponent_at-exponent.ensures.value in
-    let exponent_fits : SFits w32 c.exponent_at-exponent.result = search rules in
-    rw (to_z-of_z exponent_fits) (c.requires.steps.steps a ∙ ap (λ e. step e a) (sym exponent))
-
 module _ (g : given.Over) (c : After-update_by g) where
   abbrev sum : ℤ
   sum = local_sum c.args.settings.now.predictor c.args.cube.now c.args.settings.now.band c.args.y c.args.x
@@ -86,14 +79,13 @@ returns-clause-weights g c =
     let d = (goal.at.returns-clause-weights g c).After-update_by in
     let filled = filled g (goal.at.returns-clause-weights g c).After-put_west in let s = c.args.settings.now in let found = c.sample_by_part-found.result.0 in
     let fits : SFits w32 c.sample_by_part-found.result.0 = search rules in let part_fits : SFits w32 c.predicted_difference-part.result = search rules in
-    let exponent_fits : SFits w32 c.exponent_at-exponent.result = search rules in let mask_fits : SFits w32 c.sample_by_part-found.result.1 = search rules in
+    let mask_fits : SFits w32 c.sample_by_part-found.result.1 = search rules in
     let sign_mask = rw (← s.range.smin_is) at (simp (to_z-of_z part_fits) at c.sample_by_part-found.ensures.sign) in
-    let moved = rw sign_mask at (simp (to_z-of_z exponent_fits, to_z-of_z mask_fits) at c.update_by.ensures.value) in
-    let exponent = rw (same_bits g (goal.at.returns-clause-weights g c).Start, ← c.requires.columns) at c.exponent_at-exponent.ensures.value in
+    let moved = rw sign_mask at (simp (to_z-of_z mask_fits) at c.update_by.ensures.value) in
     let m = moved_from_room s.predictor c.args.cube.now s.band c.args.y c.args.x s.count g.row.N c.args.weights.now c.put_west.new.components
     c.prove_is_cube.ensures c.requires.place s.count_is c.requires.enough c.requires.few filled _ (by_difference g d)
     c.update_by.new.weights found _ _ (rw (← c.requires.kind) at c.sample_by_part-found.ensures.range)
-    (ap (λ v. pos 4 *ℤ found -ℤ v) (sum_is g d)) exponent moved in
+    (ap (λ v. pos 4 *ℤ found -ℤ v) (sum_is g d)) c.requires.steps.is moved in
     rw (to_z-of_z fits)
     (moved_put c.args.cube.now s.band c.args.y c.args.x found c.requires.place c.prove_is_cube.ensures.whole s.predictor (rw c.requires.columns s.wide) _
     (take s.count c.args.weights.now) _ _ (omega (arith, c.requires.later)) refl refl m)

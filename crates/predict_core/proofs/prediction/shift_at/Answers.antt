@@ -5,4 +5,4 @@ pub returns : goal.returns
 returns c =
     let fits : SFits w32 c.exponent_at.result = search rules in
     let e = to_z-of_z fits ∙ rw (c.from.ensures, c.from-2.ensures, c.from-3.ensures) at c.exponent_at.ensures.value in
-    record { steps = λ a. rw e at (c.step_shift.ensures.steps a); room = c.step_shift.ensures.room }
+    record { is = c.step_shift.ensures.exponent ∙ e; room = c.step_shift.ensures.room }

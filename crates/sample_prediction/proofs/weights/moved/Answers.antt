@@ -30,7 +30,7 @@ returns-clause-value c =
     let s = (goal.at.returns-clause-value c).Start in let up_fits : SFits w32 c.stepped.result = search rules in
     let down_fits : SFits w32 c.stepped-2.result = search rules in let raised_fits : SFits w32 c.clip_weight-raised.result = search rules in
     let lowered_fits : SFits w32 c.clip_weight-lowered.result = search rules in
-    let fits : SFits w32 c.chosen.result = search rules in let steps = c.requires.steps in
+    let fits : SFits w32 c.chosen.result = search rules in let steps = c.args.shift.steps in
     let back : pos 0 -ℤ c.args.difference ≡ neg_ℤ c.args.difference = omega (arith, ints) in
     let raised = moved_is _ _ false _ _ _ _ _ refl
     ((simp (to_z-of_z c.ranges.difference) at c.stepped.ensures.value) ∙ steps c.args.difference)

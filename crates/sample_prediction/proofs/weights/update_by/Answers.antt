@@ -7,8 +7,8 @@ use Rattle.sample_prediction.proofs.Prefixes.{update_none, update_next}
 use Rattle.sample_prediction.proofs.weights.update_by.Goals as goal
 
 pub loop-i-init : goal.loop-i-init
-loop-i-init g c = rw (to_z-of_z c.ranges.sign_mask, to_z-of_z c.ranges.exponent) (record {
-  done = update_none c.args.omega c.args.exponent (int_lt c.args.sign_mask (pos 0)) c.args.weights.now c.args.differences.now;
+loop-i-init g c = rw (to_z-of_z c.ranges.sign_mask) (record {
+  done = update_none c.args.omega c.args.shift.exponent (int_lt c.args.sign_mask (pos 0)) c.args.weights.now c.args.differences.now;
   kept = refl;
   bound = c.requires.weights_in;
   long = c.told-weights;
@@ -29,11 +29,11 @@ loop-i-preserved g c =
     SFits-small (get_or now i (pos 0)) (le_trans (c.loop-i.invariant.bound i now_long) (limit_within c.args.omega c.requires.omega_in)) in
     let difference_fits : SFits w32 (get_or us i (pos 0)) =
     (let r = room_word c.args.shift.left in let u = c.requires.differences_in i us_long in SFits-26 (get_or us i (pos 0)) (omega (arith, r, u))) in
-    let e = simp (to_z-of_z c.ranges.sign_mask, to_z-of_z c.ranges.exponent, to_z-of_z weight_fits, to_z-of_z difference_fits) at c.moved.ensures.value in
-    let done = rw (to_z-of_z c.ranges.sign_mask, to_z-of_z c.ranges.exponent) at c.loop-i.invariant.done in
-    rw (to_z-of_z fits, to_z-of_z c.ranges.sign_mask, to_z-of_z c.ranges.exponent)
+    let e = simp (to_z-of_z c.ranges.sign_mask, to_z-of_z weight_fits, to_z-of_z difference_fits) at c.moved.ensures.value in
+    let done = rw (to_z-of_z c.ranges.sign_mask) at c.loop-i.invariant.done in
+    rw (to_z-of_z fits, to_z-of_z c.ranges.sign_mask)
     (record {
-      done = update_next c.args.omega c.args.exponent (int_lt c.args.sign_mask (pos 0)) old us now i _ now_long old_long us_long c.loop-i.invariant.kept e done;
+      done = update_next c.args.omega c.args.shift.exponent (int_lt c.args.sign_mask (pos 0)) old us now i _ now_long old_long us_long c.loop-i.invariant.kept e done;
       kept = step_kept old now i _ now_long old_long c.loop-i.invariant.kept;
       bound = step_bound (2 ^ (c.args.omega + 2)) now i _ c.loop-i.invariant.bound c.moved.ensures.bound;
       long = rw length-set c.loop-i.invariant.long;
