@@ -9,7 +9,8 @@ from harness import TOP, header
 
 BIG = Layout(0, 2, 0)
 SMALL = {"columns": 4, "rows": 3, "bands": 2, "bits": 12}
-RAW = bytes(range(48))
+RAW = bytes(i if i % 2 else i // 4 for i in range(48))
+"""Samples of 12 bits, the high byte first."""
 TABLES = {"weight_table": 1, "weight_bits": 16, "accumulator_table": 1}
 WEIGHTS = [7, -3, 100, 5, 6, -7, 8]
 
@@ -139,20 +140,28 @@ def check_files(room, library):
     faults = [(header((7, 0x28)), (2, 0, 58, 0)), (header((16, 0x40)), (5, 0, 0, 0)), (header((16, 0x20)), (4, 6, 0, 0))]
     for file, fault in faults:
         room.expect(f"file of fault {fault}", library.header(file)[0], fault)
-    room.expect("a word too many", library.decode(tabled + b"\0", BIG, 48), ((11, 0, 8, 0), b""))
+    fault, written = library.decode(tabled + b"\0", BIG, 48)
+    room.expect("a word too many", (fault[0], 8 <= fault[2] < 16, written), (11, True, b""))
+
+
+def enumerators(page, kind):
+    """Returns the names and values of an enum of ccsds123.h: in lower case, without what all of them begin with."""
+    body = re.search(rf"enum ccsds123_{kind} \{{(.*?)\}};", page, re.S)[1]
+    lead = "CCSDS123_" if kind == "fault_number" else f"CCSDS123_{kind.upper()}_"
+    return [(name.lower(), int(value)) for name, value in re.findall(rf"{lead}(\w+) = (\d+)", body)]
 
 
 def check_text(room, library):
     """Checks the texts of all numbers, the names of ccsds123.h against them, and rooms of each size."""
     with open(HEADER, encoding="utf-8") as file:
         page = file.read()
-    for prefix, number, lead in (("FIELD", 3, "3 FieldRange"), ("RULE", 4, "4 Disagree"), ("ROOM", 21, "21 Room"), ("MEMBER", 23, "23 Choice")):
-        for name, value in re.findall(rf"CCSDS123_{prefix}_(\w+) = (\d+)", page):
-            text = library.text((number, int(value), 5, 6))[0]
-            room.expect(f"name {name}", text.split()[:3][2].lower() if text.startswith(lead) else text, name.replace("_", "").lower())
-    for name, value in re.findall(r"CCSDS123_(\w+) = (\d+),? +/\* (?:of|the same|the bytes|first|name|memory|a file|a bit|a room|an output|`size`)", page):
-        text = library.text((int(value), 1, 5, 6))[0]
-        room.expect(f"fault {name}", text.split()[:2] if text else text, [value, "".join(it.title() for it in name.split("_"))])
+    for kind, number in (("field", 3), ("rule", 4), ("room", 21), ("member", 23)):
+        for name, value in enumerators(page, kind):
+            words = library.text((number, value, 5, 6))[0].split()
+            room.expect(f"{kind} {name}", words[2].lower(), name.replace("_", ""))
+    for name, value in enumerators(page, "fault_number"):
+        words = library.text((value, 1, 5, 6))[0].split()
+        room.expect(f"fault {name}", (words[0], words[1].lower()), (str(value), name.replace("_", "")))
     for number in (0, 24, 0xFFFFFFFF):
         room.expect(f"number {number}", library.text((number, 0, 0, 0))[0], str(number))
     room.expect("a name that is none", library.text((3, 26, 0, 0))[0], "3")

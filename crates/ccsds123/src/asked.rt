@@ -102,11 +102,7 @@ fn test_choice(member: Member, most: u32, value: u32) -> Result<(), Refusal>
 }
 
 /// Refuses entries of a table that isn't asked for.
-fn test_tables(
-    given: &ParamsRecord,
-    weights: &[i32],
-    accumulators: &[u8],
-) -> Result<(), Refusal>
+fn test_tables(given: &ParamsRecord, weights: &[i32], accumulators: &[u8]) -> Result<(), Refusal>
     ensures weights { IfErr result (λ e. (weights_test given.now weights.now ≡ Err e)
         ⊎ ((weights_test given.now weights.now ≡ Ok tt) × (accumulators_test given.now accumulators.now ≡ Err e))) }
     ensures passed { OnOk result ((weights_test given.now weights.now ≡ Ok tt) × (accumulators_test given.now accumulators.now ≡ Ok tt)) }

@@ -31,8 +31,16 @@ fn most_header(given: &ParamsRecord, shape: Shape) -> u64
     ensures few { result ≤ 2 ^ 32 }
 {
     let bands = u64::from(shape.bands());
-    let weights = if given.weight_table != 0 { bands * 396 + 7 } else { 0 };
-    let accumulators = if has_accumulators(given) { bands * 4 + 7 } else { 0 };
+    let weights = if given.weight_table != 0 {
+        bands * 396 + 7
+    } else {
+        0
+    };
+    let accumulators = if has_accumulators(given) {
+        bands * 4 + 7
+    } else {
+        0
+    };
     152 + weights + accumulators
 }
 

@@ -10,9 +10,9 @@ use crate::header::test_length;
 use crate::records::{FaultRecord, LayoutRecord};
 use crate::refusal::{Refusal, Room, answer};
 use crate::rooms::put_bytes;
-use file_decoding::decode::decode;
 use cube_core::fault::Fault;
 use cube_core::layout::Layout;
+use file_decoding::decode::decode;
 use std::alloc::Global;
 
 /// Decodes a file: its scene's raw bytes, in a layout, go to the front of a room, and their number is stored.

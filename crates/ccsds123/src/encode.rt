@@ -33,8 +33,13 @@ pub extern "C" fn ccsds123_encode(
     file_length: &mut u64,
     fault: &mut FaultRecord,
 ) -> i32
-    ensures { Answers result fault.new (EncodesInto (record { params = params.now; weights = weights.now; accumulators = accumulators.now;
-        layout = layout.now; raw = raw.now }) file.old file.new file_length.new) }
+    ensures { Answers result fault.new (EncodesInto (record {
+      params = params.now;
+      weights = weights.now;
+      accumulators = accumulators.now;
+      layout = layout.now;
+      raw = raw.now;
+    }) file.old file.new file_length.new) }
 {
     let outcome = encode_into(
         alloc,
@@ -74,12 +79,7 @@ fn encode_into(
 }
 
 /// Returns the file of the cube whose raw bytes are given.
-fn file_of_raw(
-    alloc: Global,
-    params: &Params,
-    layout: Layout,
-    raw: &[u8],
-) -> Result<Vec<u8>, Fault>
+fn file_of_raw(alloc: Global, params: &Params, layout: Layout, raw: &[u8]) -> Result<Vec<u8>, Fault>
     requires lawful { IsLawful params.now }
     requires layout { IsLayout layout }
     ensures file { IfOk result (λ file. IsFileOfRaw params.now layout raw.now file.items) }

@@ -113,11 +113,7 @@ pub extern "C" fn ccsds123_raw_length(
 }
 
 #[tactic(auto, unfolding(crate::specs::Params::TellsRawLength))]
-fn raw_length(
-    params: &ParamsRecord,
-    layout: &LayoutRecord,
-    bytes: &mut u64,
-) -> Result<(), Refusal>
+fn raw_length(params: &ParamsRecord, layout: &LayoutRecord, bytes: &mut u64) -> Result<(), Refusal>
     ensures { TellsRawLength params.now layout.now bytes.new result }
 {
     *bytes = 0;

@@ -33,10 +33,22 @@ pub extern "C" fn ccsds123_read_header(
     fault: &mut FaultRecord,
 ) -> i32
     ensures { Answers result fault.new (ReadsInto file.now
-        (record { params = params.old; weights = weights.old; weight_count = weight_count.old; accumulators = accumulators.old;
-            accumulator_count = accumulator_count.old; length = header_length.old })
-        (record { params = params.new; weights = weights.new; weight_count = weight_count.new; accumulators = accumulators.new;
-            accumulator_count = accumulator_count.new; length = header_length.new })) }
+        (record {
+          params = params.old;
+          weights = weights.old;
+          weight_count = weight_count.old;
+          accumulators = accumulators.old;
+          accumulator_count = accumulator_count.old;
+          length = header_length.old;
+        })
+        (record {
+          params = params.new;
+          weights = weights.new;
+          weight_count = weight_count.new;
+          accumulators = accumulators.new;
+          accumulator_count = accumulator_count.new;
+          length = header_length.new;
+        })) }
 {
     let outcome = read_into(
         alloc,
@@ -64,10 +76,22 @@ fn read_into(
     header_length: &mut u64,
 ) -> Result<(), Refusal>
     ensures { ReadsInto file.now
-        (record { params = params.old; weights = weights.old; weight_count = weight_count.old; accumulators = accumulators.old;
-            accumulator_count = accumulator_count.old; length = header_length.old })
-        (record { params = params.new; weights = weights.new; weight_count = weight_count.new; accumulators = accumulators.new;
-            accumulator_count = accumulator_count.new; length = header_length.new }) result }
+        (record {
+          params = params.old;
+          weights = weights.old;
+          weight_count = weight_count.old;
+          accumulators = accumulators.old;
+          accumulator_count = accumulator_count.old;
+          length = header_length.old;
+        })
+        (record {
+          params = params.new;
+          weights = weights.new;
+          weight_count = weight_count.new;
+          accumulators = accumulators.new;
+          accumulator_count = accumulator_count.new;
+          length = header_length.new;
+        }) result }
 {
     *weight_count = 0;
     *accumulator_count = 0;

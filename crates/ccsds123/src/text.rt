@@ -16,8 +16,7 @@ pub extern "C" fn ccsds123_fault_text(
     alloc: Global,
     fault: &FaultRecord,
     text: &mut [u8],
-) -> usize
-{
+) -> usize {
     match text_of(alloc, fault) {
         Ok(told) => put_text(told.as_bytes(), text),
         Err(_) => put_text(b"12 WantOfMemory", text),
