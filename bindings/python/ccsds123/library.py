@@ -1,7 +1,7 @@
 """The C library `libccsds123`, loaded by ctypes: its structs, and its calls, which raise Fault where they are refused.
 
-`CCSDS123_LIBRARY` names the library; without it, it is looked for in this package's folder, where the repository builds it, and where the system
-keeps its libraries. `ccsds123.h` documents each call.
+`CCSDS123_LIBRARY` names the library; without it, it is looked for in this package's folder, where the repository builds it, below Python's and the
+user's own prefix (`~/.local`), and where the system keeps its libraries. `ccsds123.h` documents each call.
 """
 
 from __future__ import annotations
@@ -10,6 +10,7 @@ import ctypes
 import ctypes.util
 import functools
 import os
+import site
 import sys
 from ctypes import POINTER, byref, c_char_p, c_int32, c_int64, c_size_t, c_uint32, c_uint64, c_void_p
 from typing import Iterator
@@ -63,7 +64,8 @@ def places() -> Iterator[str]:
     """Yields the names under which the library is looked for."""
     here = os.path.dirname(os.path.abspath(__file__))
     top = os.path.dirname(os.path.dirname(os.path.dirname(here)))
-    for folder in (here, os.path.join(top, "crates", "ccsds123", "out")):
+    prefixes = [os.path.join(it, "lib") for it in (sys.prefix, site.getuserbase())]
+    for folder in (here, os.path.join(top, "crates", "ccsds123", "out"), *prefixes):
         if os.path.isfile(os.path.join(folder, FILE)):
             yield os.path.join(folder, FILE)
     found = ctypes.util.find_library("ccsds123")
