@@ -34,6 +34,13 @@ class Archives(FolderTest):
                 self.assertEqual(self.read(name + "_again.hdr"), self.read(name + ".hdr"))
                 self.assertEqual([it.status for it in verify(self.path(name))], [0] * (4 + bool(front)))
 
+    def test_header_comes_back_byte_by_byte(self):
+        header = self.scene()
+        self.write("scene.hdr", self.read("scene.hdr").replace(b"\n", b"\r\n").replace(b"of the tests", b"of Z\xfcrich"))
+        compress(header, self.path("archive"))
+        expand(self.path("archive"), self.path("again.img"))
+        self.assertEqual(self.read("again.hdr"), self.read("scene.hdr"))
+
     def test_permissions_are_kept(self):
         header = self.scene()
         os.chmod(self.path("scene.img"), 0o640)
@@ -185,9 +192,9 @@ class Windows(FolderTest):
 class Choosing(FolderTest):
     def test_sets_are_tried_and_the_best_is_first(self):
         found = choose(self.scene(), rows=10, options={"bits": 12})
-        self.assertEqual((found.first_row, found.rows, found.doubts), (5, 10, []))
+        self.assertEqual((found.first_row, found.rows, found.bits, found.doubts), (5, 10, 8, []))
         self.assertEqual([it.ratio for it in found.tried], sorted((it.ratio for it in found.tried), reverse=True))
-        self.assertTrue(all(it.options["bits"] == 12 for it in found.tried))
+        self.assertEqual(sorted(it.options["bits"] for it in found.tried), [8, *[12] * (len(found.tried) - 1)])
 
     def test_a_wrong_byte_order_is_doubted(self):
         header = self.scene(columns=40, rows=40)

@@ -2,6 +2,7 @@
 
 import json
 import os
+import pty
 import signal
 import subprocess
 import sys
@@ -34,6 +35,17 @@ class Commands(FolderTest):
         status, output, said = self.run_words("verify", "archive")
         self.assertEqual((status, len(output.splitlines()), said), (0, 4, ""))
         self.assertEqual(self.run_words("verify", "archive", "--quiet"), (0, b"", ""))
+
+    def test_bar_is_drawn_on_a_terminal_alone(self):
+        self.scene()
+        ours, theirs = pty.openpty()
+        words = [sys.executable, "-m", "ccsds123", "compress", "scene.hdr", "archive", "--rows", "5"]
+        subprocess.run(words, env={**os.environ, "PYTHONPATH": PACKAGE}, cwd=self.room.name, stdout=subprocess.DEVNULL, stderr=theirs, check=True)
+        os.close(theirs)
+        drawn = os.read(ours, 1 << 16).decode()
+        os.close(ours)
+        self.assertIn("scene.img [", drawn)
+        self.assertIn("100 %", drawn)
 
     def test_json_is_one_object_a_line(self):
         self.scene()

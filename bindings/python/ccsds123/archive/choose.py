@@ -2,7 +2,9 @@
 
 from __future__ import annotations
 
+import sys
 import time
+from array import array
 from dataclasses import asdict, dataclass
 from typing import Dict, List, Optional
 
@@ -51,6 +53,8 @@ class Choice:
 
     first_row: int
     rows: int
+    bits: int
+    """The bits that the samples of these rows use."""
     tried: List[Tried]
     doubts: List[str]
 
@@ -62,11 +66,13 @@ def choose(header_path: envi.Path, rows: Optional[int] = None, options: Optional
         height = min(header.rows, rows or max(1, MOST_BYTES // header.row_bytes))
         first = (header.rows - height) // 2
         raw, params = scene.rows(first, height), scene.params(height, given)
-        tried = [it for it in (try_set(raw, header, {**vars(params), **chosen}, {**chosen, **given}) for chosen in SETS) if it]
+        used = bits_of(raw, header)
+        sets = SETS + [{"bits": used}] * (used < params.bits)
+        tried = [it for it in (try_set(raw, header, {**vars(params), **chosen}, {**given, **chosen}) for chosen in sets) if it]
         if not tried:
             raise ArchiveError(f"{scene.path}: none of the option sets is lawful for these samples; give --bits {8 * header.sample_bytes}")
         tried.sort(key=lambda it: -it.ratio)
-        return Choice(first, height, tried, doubts_of(raw, header, params, tried[0].ratio))
+        return Choice(first, height, used, tried, doubts_of(raw, header, params, tried[0].ratio))
 
 
 def try_set(raw: bytes, header: envi.Header, members: dict, options: dict) -> Optional[Tried]:
@@ -81,6 +87,15 @@ def try_set(raw: bytes, header: envi.Header, members: dict, options: dict) -> Op
     end = time.perf_counter()
     size = len(raw) / 1e6
     return Tried(options, len(raw) / len(file), size / (middle - start), size / (end - middle))
+
+
+def bits_of(raw: bytes, header: envi.Header) -> int:
+    """Returns the bits that samples use, 2 at least."""
+    items = array({(1, False): "B", (2, False): "H", (2, True): "h"}[header.sample_bytes, header.signed], raw)
+    if header.sample_bytes == 2 and header.byteorder != sys.byteorder:
+        items.byteswap()
+    least, greatest = min(items), max(items)
+    return max(2, max(greatest, -least - 1).bit_length() + header.signed)
 
 
 def doubts_of(raw: bytes, header: envi.Header, params: Params, best: float) -> List[str]:

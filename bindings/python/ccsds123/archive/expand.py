@@ -48,7 +48,7 @@ def write(index: Index, folder: str, path: str, jobs: Optional[int], shown: bool
     """Writes the raw file."""
     header = index.envi
     with open(path, "w+b") as file, Progress(index.scene, header.length, shown) as progress:
-        os.fchmod(file.fileno(), int(index.mode, 8) | 0o200)
+        os.fchmod(file.fileno(), index.permissions | 0o200)
         if index.front:
             file.write(read_part(os.path.join(folder, index.front.file), index.front.file_bytes, index.front.file_sha256))
             file.flush()
@@ -61,7 +61,7 @@ def write(index: Index, folder: str, path: str, jobs: Optional[int], shown: bool
         if sha256_of(file) != index.raw_sha256:
             raise ArchiveError(f"{path}: the SHA-256 of the whole scene isn't the one of the index")
         os.fsync(file.fileno())
-        os.fchmod(file.fileno(), int(index.mode, 8))
+        os.fchmod(file.fileno(), index.permissions)
 
 
 def write_piece(number: int, header: envi.Header, piece: Piece, raw: bytes) -> None:

@@ -15,6 +15,7 @@ FORMAT = "ccsds123 archive"
 VERSION = 1
 OWN_FILE = re.compile(r"(?:rows-\d{5}-\d{5}|front)-[0-9a-f]{16}\.(?:ccsds|bin)(?:\.partial)?|index\.json\.partial")
 """The names that a run gives to its files, but for the index."""
+OCTAL = re.compile(r"0[0-7]{3}")
 DIGEST = re.compile(r"[0-9a-f]{64}")
 
 
@@ -64,6 +65,10 @@ class Index:
     def envi(self) -> envi.Header:
         return envi.parse(self.header, f"the header of {self.scene}")
 
+    @property
+    def permissions(self) -> int:
+        return int(self.mode, 8) & 0o777
+
     def files(self) -> List[str]:
         """Returns the names of all files of the archive, but for the index."""
         return [*([self.front.file] if self.front else []), *(piece.file for piece in self.pieces)]
@@ -100,7 +105,8 @@ def index_of(found: dict) -> Index:
         if not OWN_FILE.fullmatch(part.file) or not DIGEST.fullmatch(part.file_sha256):
             raise ValueError(f"{part.file!r} is no name of a piece, or its checksum isn't one")
     check_rows(index)
-    int(index.mode, 8)
+    if not OCTAL.fullmatch(index.mode):
+        raise ValueError(f"{index.mode!r} aren't permissions")
     return index
 
 

@@ -20,8 +20,8 @@ class Scene:
     def __init__(self, header_path: envi.Path) -> None:
         self.header_path = os.fspath(header_path)
         self.header = envi.read(header_path)
-        with open(header_path, encoding="utf-8", errors="surrogateescape") as text:
-            self.header_text = text.read()
+        with open(header_path, "rb") as text:
+            self.header_text = text.read().decode("utf-8", "surrogateescape")
         self.path = envi.raw_file_of(header_path)
         self.file: BinaryIO = open(self.path, "rb")
         self.mode = stat.S_IMODE(os.fstat(self.file.fileno()).st_mode) & 0o777

@@ -65,7 +65,7 @@ def run_window(given: argparse.Namespace) -> int:
 
 def run_choose(given: argparse.Namespace) -> int:
     found = choose(given.header, given.rows, params_of(given))
-    told = {"first_row": found.first_row, "rows": found.rows, "tried": [it.as_json() for it in found.tried], "doubts": found.doubts}
+    told = {"first_row": found.first_row, "rows": found.rows, "bits": found.bits, "tried": [it.as_json() for it in found.tried], "doubts": found.doubts}
     tell(given, table_of(found), told)
     return 0
 
@@ -97,7 +97,7 @@ def said_of(index: Index, folder: str) -> str:
 
 def table_of(found: Choice) -> str:
     """Returns a table, the best ratio first, and the doubts below it."""
-    rows = [f"rows {found.first_row} to {found.first_row + found.rows - 1}", " ratio  compress MB/s  expand MB/s  options"]
+    rows = [f"rows {found.first_row} to {found.first_row + found.rows - 1}, whose samples use {found.bits} bits", " ratio  compress MB/s  expand MB/s  options"]
     rows += [f"{it.ratio:6.3f} {it.compress_mb:14.1f} {it.expand_mb:12.1f}  {options_of(it.options)}" for it in found.tried]
     return "\n".join(rows + [f"doubtful: {it}" for it in found.doubts])
 
