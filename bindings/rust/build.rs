@@ -11,9 +11,9 @@ fn main() {
     println!("cargo:rerun-if-env-changed=PKG_CONFIG_PATH");
     let folder = match env::var_os("CCSDS123_LIB_DIR") {
         Some(named) => PathBuf::from(named),
-        None => built().or_else(installed).unwrap_or_else(|| {
-            panic!("there is no {FILE}: build it with make lib, or install it, or let CCSDS123_LIB_DIR name its folder")
-        }),
+        None => built()
+            .or_else(installed)
+            .unwrap_or_else(|| panic!("there is no {FILE}: build it with make lib, or install it, or let CCSDS123_LIB_DIR name its folder")),
     };
     if !folder.join(FILE).is_file() {
         panic!("{} holds no {FILE}", folder.display());

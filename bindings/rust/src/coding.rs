@@ -34,9 +34,7 @@ impl Params {
     pub fn check(&self) -> Result<(), Fault> {
         let (raw, weights, accumulators) = (self.raw(), self.weight_values(), self.accumulators());
         // SAFETY: all pointers are valid, and each slice has as many items as are said.
-        answer(|fault| unsafe {
-            ffi::ccsds123_params_check(&raw, weights.as_ptr(), weights.len(), accumulators.as_ptr(), accumulators.len(), fault)
-        })
+        answer(|fault| unsafe { ffi::ccsds123_params_check(&raw, weights.as_ptr(), weights.len(), accumulators.as_ptr(), accumulators.len(), fault) })
     }
 
     /// The number of raw bytes of a scene with these sizes.
@@ -89,8 +87,18 @@ pub fn encode(params: &Params, layout: Layout, raw: &[u8]) -> Result<Vec<u8>, Fa
     // SAFETY: all pointers are valid, each slice has as many items as are said, and `file` as much room as its capacity.
     answer(|fault| unsafe {
         ffi::ccsds123_encode(
-            &params.raw(), weights.as_ptr(), weights.len(), accumulators.as_ptr(), accumulators.len(), &layout.raw(), raw.as_ptr(), raw.len(),
-            file.as_mut_ptr(), file.capacity(), &mut length, fault,
+            &params.raw(),
+            weights.as_ptr(),
+            weights.len(),
+            accumulators.as_ptr(),
+            accumulators.len(),
+            &layout.raw(),
+            raw.as_ptr(),
+            raw.len(),
+            file.as_mut_ptr(),
+            file.capacity(),
+            &mut length,
+            fault,
         )
     })?;
     // SAFETY: the call wrote that many bytes.
@@ -109,9 +117,7 @@ pub fn decode(file: &[u8], layout: Layout) -> Result<(Params, Vec<u8>), Fault> {
     let mut raw: Vec<u8> = room_for(wanted)?;
     let mut length = 0;
     // SAFETY: all pointers are valid, the slice has as many bytes as are said, and `raw` as much room as its capacity.
-    answer(|fault| unsafe {
-        ffi::ccsds123_decode(file.as_ptr(), file.len(), &layout.raw(), raw.as_mut_ptr(), raw.capacity(), &mut length, fault)
-    })?;
+    answer(|fault| unsafe { ffi::ccsds123_decode(file.as_ptr(), file.len(), &layout.raw(), raw.as_mut_ptr(), raw.capacity(), &mut length, fault) })?;
     // SAFETY: the call wrote that many bytes.
     unsafe { raw.set_len(length as usize) };
     Ok((params, raw))
@@ -141,8 +147,17 @@ fn read_with(file: &[u8], weight_room: u64, accumulator_room: u64) -> Result<Hea
     // SAFETY: all pointers are valid, the slice has as many bytes as are said, and the tables as much room as their capacities.
     answer(|fault| unsafe {
         ffi::ccsds123_read_header(
-            file.as_ptr(), file.len(), &mut raw, weights.as_mut_ptr(), weights.capacity(), &mut weight_count, accumulators.as_mut_ptr(),
-            accumulators.capacity(), &mut accumulator_count, &mut length, fault,
+            file.as_ptr(),
+            file.len(),
+            &mut raw,
+            weights.as_mut_ptr(),
+            weights.capacity(),
+            &mut weight_count,
+            accumulators.as_mut_ptr(),
+            accumulators.capacity(),
+            &mut accumulator_count,
+            &mut length,
+            fault,
         )
     })?;
     // SAFETY: the call wrote so many entries of each.

@@ -53,7 +53,9 @@ pub struct Params {
 pub enum Order {
     BandSequential,
     /// `depth` bands are interleaved together: 1 to the number of bands.
-    BandInterleaved { depth: u32 },
+    BandInterleaved {
+        depth: u32,
+    },
 }
 
 /// Initial weights: signed numbers of `bits` bits each, band after band, in each band in the order of its components.

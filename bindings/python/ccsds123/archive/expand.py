@@ -64,9 +64,8 @@ def write(index: Index, folder: str, path: str, jobs: Optional[int], shown: bool
         os.fchmod(file.fileno(), index.permissions)
 
 
-def write_piece(number: int, header: envi.Header, piece: Piece, raw: bytes) -> None:
+def write_piece(number: int, header: envi.Header, piece: Piece, done: memoryview) -> None:
     """Writes the samples of a piece where they stand in the raw file."""
-    done = memoryview(raw)
     for at, length in runs_of(header, piece.first_row, piece.rows):
         part, done = done[:length], done[length:]
         while part:

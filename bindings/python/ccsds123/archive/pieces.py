@@ -9,7 +9,7 @@ from ..coding import decode_cube, encode_raw
 from ..fault import SAMPLE_RANGE, WANT_OF_MEMORY, Fault
 from .files import digest, read_part, store
 from .index import ArchiveError, Piece
-from .scene import Scene
+from .scene import AT_ONCE, Scene
 
 
 def code_piece(scene: Scene, options: dict, first: int, rows: int, folder: str) -> Piece:
@@ -21,7 +21,7 @@ def code_piece(scene: Scene, options: dict, first: int, rows: int, folder: str) 
         back = decode_cube(file, interleave=header.interleave, sample_bytes=header.sample_bytes, byteorder=header.byteorder)
     except Fault as fault:
         raise explained(fault, name, header) from None
-    if back.data[:] != raw:
+    if not are_same(back.data, raw):
         raise ArchiveError(f"{name}: the file doesn't decode to the samples; nothing was kept. Please report this")
     sum_of_file = digest(file)
     stored = f"rows-{first:05}-{first + rows - 1:05}-{sum_of_file[:16]}.ccsds"
@@ -29,7 +29,12 @@ def code_piece(scene: Scene, options: dict, first: int, rows: int, folder: str) 
     return Piece(first, rows, stored, len(file), sum_of_file, len(raw), digest(raw))
 
 
-def decode_piece(folder: str, piece: Piece, header: envi.Header) -> bytes:
+def are_same(data, raw: bytes) -> bool:
+    """Returns whether two buffers hold the same bytes, looking at a few megabytes at once."""
+    return len(data) == len(raw) and all(data[at : at + AT_ONCE] == raw[at : at + AT_ONCE] for at in range(0, len(raw), AT_ONCE))
+
+
+def decode_piece(folder: str, piece: Piece, header: envi.Header) -> memoryview:
     """Returns the raw bytes of a piece, interleaved as the scene is; raises ArchiveError where they aren't what was coded."""
     path = os.path.join(folder, piece.file)
     file = read_part(path, piece.file_bytes, piece.file_sha256)
@@ -39,7 +44,7 @@ def decode_piece(folder: str, piece: Piece, header: envi.Header) -> bytes:
         raise explained(fault, path, header) from None
     if len(cube.data) != piece.raw_bytes or digest(cube.data) != piece.raw_sha256:
         raise ArchiveError(f"{path}: its samples aren't those that were coded: their SHA-256 isn't the one of the index")
-    return cube.data[:]
+    return memoryview(cube.data)
 
 
 def explained(fault: Fault, name: str, header: envi.Header) -> Exception:

@@ -38,8 +38,11 @@ def verify(path: envi.Path, jobs: Optional[int] = None) -> Iterator[Found]:
     if index.front:
         front = index.front
         yield guarded(os.path.join(name, front.file), lambda: said_of_front(name, front))
-    found = dict(each(lambda piece: guarded(os.path.join(name, piece.file), lambda: said_of(name, piece, header)), index.pieces, jobs))
-    yield from (found[piece] for piece in index.pieces)
+    found, left = {}, list(index.pieces)
+    for piece, result in each(lambda it: guarded(os.path.join(name, it.file), lambda: said_of(name, it, header)), index.pieces, jobs):
+        found[piece] = result
+        while left and left[0] in found:
+            yield found.pop(left.pop(0))
 
 
 def said_of(folder, piece, header) -> str:

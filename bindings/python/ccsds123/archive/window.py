@@ -44,10 +44,10 @@ def within(span: Optional[Range], size: int, what: str) -> Range:
     return first, end
 
 
-def copy_row(source: envi.Header, raw: bytes, row: int, column: int, bands: Sequence[int], target: envi.Header, room: bytearray, to: int) -> None:
+def copy_row(source: envi.Header, raw: memoryview, row: int, column: int, bands: Sequence[int], target: envi.Header, room: bytearray, to: int) -> None:
     """Copies one row of the chosen bands, from the given column on, into a row of the target."""
     items = "B" if source.sample_bytes == 1 else "H"
-    old, new = memoryview(raw).cast(items), memoryview(room).cast(items)
+    old, new = raw.cast(items), memoryview(room).cast(items)
     for place, band in enumerate(bands):
         first, step = run_of(source, band, row)
         first += column * step
