@@ -87,6 +87,16 @@ class Commands(FolderTest):
             self.assertNotIn("Traceback", said)
         self.assertFalse(os.path.exists(self.path("new")))
 
+    def test_full_disk_is_told_with_the_name_of_the_file(self):
+        self.scene()
+        for words in (["compress", "scene.hdr", "archive"], ["expand", "whole", "again.img"]):
+            self.run_words("compress", "scene.hdr", "whole")
+            command = ["bash", "-c", 'ulimit -f 0; exec "$@"', "bash", sys.executable, "-m", "ccsds123", *words]
+            ran = subprocess.run(command, env={**os.environ, "PYTHONPATH": PACKAGE}, cwd=self.room.name, capture_output=True, check=False)
+            self.assertEqual(ran.returncode, 4)
+            self.assertRegex(ran.stderr.decode(), r"^ccsds123: (archive/rows-|again.img).*: File too large\n$")
+        self.assertEqual(sorted(os.listdir(self.room.name)), ["scene.hdr", "scene.img", "whole"])
+
     def test_window_goes_to_a_file_or_to_standard_output(self):
         self.scene()
         self.run_words("compress", "scene.hdr", "archive", "--rows", "6")

@@ -3,6 +3,7 @@
 from __future__ import annotations
 
 import os
+import threading
 from concurrent.futures import ThreadPoolExecutor
 from typing import List, Optional
 
@@ -80,20 +81,27 @@ def sweep(folder: str, kept: List[str]) -> None:
 
 def code(scene: Scene, folder: str, rows: int, jobs: Optional[int], options: dict, shown: bool) -> Index:
     """Codes all pieces, and returns their index. The whole raw file is hashed meanwhile."""
-    header, pieces = scene.header, []
+    header, stopped = scene.header, threading.Event()
     front = front_of(scene, folder)
-    with ThreadPoolExecutor(1) as beside, Progress(os.path.basename(scene.path), header.length, shown) as progress:
-        whole = beside.submit(scene.sha256)
-        for _, piece in each(lambda it: code_piece(scene, options, *it, folder), pieces_of(header.rows, rows), jobs):
-            pieces.append(piece)
-            progress.step(piece.raw_bytes)
-        pieces.sort(key=by_row)
+    with ThreadPoolExecutor(1) as beside:
+        whole = beside.submit(scene.sha256, stopped)
+        try:
+            pieces = code_pieces(scene, folder, rows, jobs, options, shown)
+        except BaseException:
+            stopped.set()
+            raise
         named = {"scene": os.path.basename(scene.path), "mode": f"{scene.mode:04o}", "header": scene.header_text}
         return Index(**named, raw_bytes=header.offset + header.length, raw_sha256=whole.result(), options=options, pieces=pieces, front=front)
 
 
-def by_row(piece: Piece) -> int:
-    return piece.first_row
+def code_pieces(scene: Scene, folder: str, rows: int, jobs: Optional[int], options: dict, shown: bool) -> List[Piece]:
+    """Codes all pieces, and returns them in the order of their rows."""
+    pieces = []
+    with Progress(os.path.basename(scene.path), scene.header.length, shown) as progress:
+        for _, piece in each(lambda it: code_piece(scene, options, *it, folder), pieces_of(scene.header.rows, rows), jobs):
+            pieces.append(piece)
+            progress.step(piece.raw_bytes)
+    return sorted(pieces, key=lambda piece: piece.first_row)
 
 
 def front_of(scene: Scene, folder: str) -> Optional[Front]:

@@ -7,7 +7,7 @@ import os
 from typing import Optional
 
 from .. import envi
-from .files import PARTIAL, read_part, store
+from .files import PARTIAL, naming, read_part, store
 from .index import ArchiveError, Index, Piece, read_index
 from .jobs import each
 from .pieces import decode_piece
@@ -47,7 +47,7 @@ def header_path_of(path: str) -> str:
 def write(index: Index, folder: str, path: str, jobs: Optional[int], shown: bool) -> None:
     """Writes the raw file."""
     header = index.envi
-    with open(path, "w+b") as file, Progress(index.scene, header.length, shown) as progress:
+    with naming(path), open(path, "w+b") as file, Progress(index.scene, header.length, shown) as progress:
         os.fchmod(file.fileno(), index.permissions | 0o200)
         if index.front:
             file.write(read_part(os.path.join(folder, index.front.file), index.front.file_bytes, index.front.file_sha256))

@@ -17,9 +17,20 @@ def digest(data) -> str:
     return hashlib.sha256(data).hexdigest()
 
 
+@contextmanager
+def naming(path: str) -> Iterator[None]:
+    """Has the system's errors name this file, where they name none."""
+    try:
+        yield
+    except OSError as error:
+        if error.filename is None:
+            error.filename = path
+        raise
+
+
 def store(path: str, data, mode: Optional[int] = None) -> None:
     """Writes a file whole, on the disk too, under a name of its own, then gives it its name and permissions."""
-    with open(path + PARTIAL, "wb") as file:
+    with naming(path), open(path + PARTIAL, "wb") as file:
         if mode is not None:
             os.fchmod(file.fileno(), mode)
         file.write(data)
@@ -46,6 +57,8 @@ def locked(folder: str) -> Iterator[None]:
             fcntl.flock(number, fcntl.LOCK_EX | fcntl.LOCK_NB)
         except BlockingIOError:
             raise ArchiveError(f"{folder} is being written by another run") from None
+        except OSError:
+            pass  # Some network file systems have no such locks.
         yield
     finally:
         os.close(number)

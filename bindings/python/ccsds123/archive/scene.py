@@ -5,6 +5,7 @@ from __future__ import annotations
 import hashlib
 import os
 import stat
+import threading
 from typing import BinaryIO, Iterator, Tuple
 
 from .. import envi
@@ -60,10 +61,12 @@ class Scene:
             left -= len(part)
         return parts[0] if len(parts) == 1 else b"".join(parts)
 
-    def sha256(self) -> str:
-        """Returns the SHA-256 of the whole raw file, as `sha256sum` prints it."""
+    def sha256(self, stopped: threading.Event) -> str:
+        """Returns the SHA-256 of the whole raw file, as `sha256sum` prints it; it looks no further once it is stopped."""
         whole, found = self.header.offset + self.header.length, hashlib.sha256()
         for at in range(0, whole, AT_ONCE):
+            if stopped.is_set():
+                break
             found.update(self.read(at, min(AT_ONCE, whole - at)))
         return found.hexdigest()
 
