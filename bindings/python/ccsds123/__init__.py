@@ -8,7 +8,8 @@ A refusal raises Fault. `ccsds123.envi` reads and writes ENVI headers, `ccsds123
 `python3 -m ccsds123` is a command for both.
 """
 
-from .coding import Cube, decode, decode_cube, encode, header
+from .coding import decode, decode_cube, encode, header
+from .cube import Cube
 from .fault import Fault
 from .library import version
 from .params import Params, WeightTable

@@ -68,10 +68,10 @@ def places() -> Iterator[str]:
     for folder in (here, os.path.join(top, "crates", "ccsds123", "out"), *prefixes):
         if os.path.isfile(os.path.join(folder, FILE)):
             yield os.path.join(folder, FILE)
+    yield FILE
     found = ctypes.util.find_library("ccsds123")
     if found:
         yield found
-    yield FILE
 
 
 @functools.lru_cache(maxsize=None)
