@@ -5,7 +5,7 @@ from __future__ import annotations
 import argparse
 import re
 import sys
-from dataclasses import fields
+from dataclasses import MISSING, fields
 from typing import Dict, List, Optional, Tuple
 
 from ..archive.compress import ROWS
@@ -97,12 +97,13 @@ def add_params(command: Parser) -> None:
         if it.name in SCENE_MEMBERS:
             continue
         name = "--" + it.name.replace("_", "-")
+        usual = "" if it.default is MISSING else f"default {it.default}"
         if it.name in WORDS:
-            group.add_argument(name, choices=WORDS[it.name])
+            group.add_argument(name, choices=WORDS[it.name], help=usual)
         elif isinstance(it.default, bool):
             group.add_argument(name, action="store_true", default=None)
         else:
-            group.add_argument(name, type=int, metavar="N")
+            group.add_argument(name, type=int, metavar="N", help=usual)
 
 
 def params_of(given: argparse.Namespace) -> Dict[str, object]:
