@@ -11,6 +11,7 @@ from typing import Any, Optional, Union
 
 from . import library
 from .cube import Cube
+from .fault import Fault
 from .library import CParams
 from .params import Params
 from .records import c_layout, c_params, c_tables, params_of
@@ -92,9 +93,16 @@ def decode_cube(file: Any, *, interleave: str = "bsq", sample_bytes: Optional[in
     size = sample_bytes or (1 if params.bits <= 8 else 2)
     layout, length, wanted = c_layout(interleave, size, byteorder), c_uint64(), c_uint64()
     library.call("raw_length", byref(c_params(params)), byref(layout), byref(wanted))
-    data = room_of(wanted.value)
-    with address_of(file) as (given, given_length), address_of(data) as (raw, raw_room):
-        library.call("decode", given, given_length, byref(layout), raw, raw_room, byref(length))
+    try:
+        data, want = room_of(wanted.value), None
+    except MemoryError as error:
+        data, want = room_of(1), error
+    try:
+        with address_of(file) as (given, given_length), address_of(data) as (raw, raw_room):
+            library.call("decode", given, given_length, byref(layout), raw, raw_room, byref(length))
+    except Fault as fault:
+        # What is wrong with the file itself comes first.
+        raise (want if want and fault.number == ROOM else fault) from None
     return Cube(params, interleave, data, size, byteorder)
 
 
@@ -115,7 +123,7 @@ def header(source: Union[bytes, str, "os.PathLike[str]"]) -> Params:
                 rooms = (weights, entries, byref(counts[0]), accumulators, entries, byref(counts[1]))
                 library.call("read_header", data, min(data_length, HEADER_BYTES), byref(found), *rooms, byref(length))
                 break
-            except library.Fault as fault:
+            except Fault as fault:
                 if fault.number != ROOM or entries > LEAST_ROOM:
                     raise
     return params_of(found, weights[: counts[0].value], accumulators[: counts[1].value])

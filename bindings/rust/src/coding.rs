@@ -114,10 +114,12 @@ pub fn encode(params: &Params, layout: Layout, raw: &[u8]) -> Result<Vec<u8>, Fa
 pub fn decode(file: &[u8], layout: Layout) -> Result<(Params, Vec<u8>), Fault> {
     let params = read_header(file)?.params;
     let wanted = params.raw_length(layout)?;
-    let mut raw: Vec<u8> = room_for(wanted)?;
+    // Where there is no memory for the samples, what is wrong with the file itself is still told first.
+    let mut raw: Vec<u8> = room_for(wanted).unwrap_or_default();
     let mut length = 0;
     // SAFETY: all pointers are valid, the slice has as many bytes as are said, and `raw` as much room as its capacity.
-    answer(|fault| unsafe { ffi::ccsds123_decode(file.as_ptr(), file.len(), &layout.raw(), raw.as_mut_ptr(), raw.capacity(), &mut length, fault) })?;
+    answer(|fault| unsafe { ffi::ccsds123_decode(file.as_ptr(), file.len(), &layout.raw(), raw.as_mut_ptr(), raw.capacity(), &mut length, fault) })
+        .map_err(|fault| if matches!(fault, Fault::Room { .. }) { Fault::WantOfMemory } else { fault })?;
     // SAFETY: the call wrote that many bytes.
     unsafe { raw.set_len(length as usize) };
     Ok((params, raw))
