@@ -80,6 +80,6 @@ PYTHON = $(shell for it in python3 /usr/bin/python3; do $$it -c 'import numpy' 2
 bindings: all lib
 	$(PYTHON) tests/python_bindings.py --numpy 1 500
 	tests/rust_bindings.py 1 500
-	tests/pages.py
+	PYTHON=$(PYTHON) tests/pages.py
 
 callers: bindings

@@ -1,14 +1,16 @@
 #!/usr/bin/env python3
 """Runs the lines of docs/LIBRARY.md and docs/ARCHIVE.md as they are pasted into a shell.
 
-    tests/pages.py [PAGE..]
+    [PYTHON=COMMAND] tests/pages.py [PAGE..]
 
 The blocks of each page that are marked `sh` run one after another in a shell of their own, from the top of the repository, with an empty folder as
-home; those of ARCHIVE.md after the first one of LIBRARY.md. Each has to end with status 0. Cargo, a C compiler and pkg-config have to be there.
+home; those of ARCHIVE.md after the first one of LIBRARY.md. Each has to end with status 0. Cargo, a C compiler, pkg-config and NumPy have to be there; PYTHON is the Python that
+has NumPy, where `python3` has not.
 """
 
 import os
 import re
+import shutil
 import subprocess
 import sys
 import tempfile
@@ -26,10 +28,19 @@ def blocks_of(page):
 
 
 def environment(home):
-    """Returns the variables of the shell: those of this one, with another home, in which Cargo's own folders stay what they are."""
+    """Returns the variables of the shell: those of this one, with another home, in which Cargo's own folders stay what they are, and PYTHON as `python3`."""
+    folder, python = os.path.join(home, "own"), shutil.which(os.environ.get("PYTHON", "python3"))
+    os.mkdir(folder)
+    with open(os.path.join(folder, "python3"), "w", encoding="utf-8", opener=executable) as file:
+        file.write(f'#!/bin/sh\nexec "{python}" "$@"\n')
     kept = {name: os.environ.get(name, os.path.expanduser(usual)) for name, usual in (("CARGO_HOME", "~/.cargo"), ("RUSTUP_HOME", "~/.rustup"))}
     dropped = ("PYTHONPATH", "CCSDS123_LIBRARY", "CCSDS123_LIB_DIR")
-    return {**{name: value for name, value in os.environ.items() if name not in dropped}, **kept, "HOME": home}
+    others = {name: value for name, value in os.environ.items() if name not in dropped}
+    return {**others, **kept, "HOME": home, "PATH": f"{folder}:{os.environ['PATH']}"}
+
+
+def executable(path, flags):
+    return os.open(path, flags, 0o755)
 
 
 def run_page(page):
