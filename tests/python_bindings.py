@@ -10,6 +10,7 @@ installed. Eight threads code all sets again at once. SEED defaults to 1 and COU
 
 import array
 import os
+import re
 import sys
 import tempfile
 import unittest
@@ -37,6 +38,16 @@ def unit_tests(room):
     for test, text in found.failures + found.errors:
         room.expect(str(test), text.strip().splitlines()[-1], "passed")
     room.passed += found.testsRun - len(found.failures) - len(found.errors) - len(found.skipped)
+
+
+def check_versions(room):
+    """Checks that the packages have the version of the repository, which stands in VERSION."""
+    with open(os.path.join(TOP, "VERSION"), encoding="utf-8") as file:
+        wanted = file.read().strip()
+    for name in ("python/pyproject.toml", "rust/Cargo.toml"):
+        with open(os.path.join(TOP, "bindings", name), encoding="utf-8") as file:
+            room.expect(f"the version of {name}", re.search(r'^version = "(.*)"$', file.read(), re.M)[1], wanted)
+    room.expect("the version of the library", ccsds123.version(), wanted)
 
 
 def params_of(one):
@@ -123,6 +134,7 @@ def main():
     with tempfile.TemporaryDirectory() as folder:
         room = Room(folder, words[2] if len(words) > 2 else PROGRAM)
         unit_tests(room)
+        check_versions(room)
         sets, files = [drawn(seed, number) for number in range(count)], []
         for number, one in enumerate(sets):
             name = f"set {number}: {' '.join(one.words())}"
