@@ -69,7 +69,7 @@ plain:
 # The tests of the Python package, and 100 sets of parameters by Python's own library, are a part of `make test`.
 SCRIPTS += tests/python_bindings.py
 .PHONY: callers bindings tests/python_bindings.py
-tests/python_bindings.py: lib
+tests/python_bindings.py:
 	$@
 
 # The first of these that has NumPy; `apt install python3-numpy` adds it to Debian's own.

@@ -26,7 +26,7 @@ fn main() {
 /// The folder where the repository builds the library, if it did.
 fn built() -> Option<PathBuf> {
     let here = env::var_os("CARGO_MANIFEST_DIR")?;
-    let folder = Path::new(&here).join("../../crates/ccsds123/out");
+    let folder = Path::new(&here).join("../../build/lib");
     folder.join(FILE).is_file().then_some(folder)
 }
 

@@ -65,7 +65,7 @@ def places() -> Iterator[str]:
     here = os.path.dirname(os.path.abspath(__file__))
     top = os.path.dirname(os.path.dirname(os.path.dirname(here)))
     prefixes = [os.path.join(it, "lib") for it in (sys.prefix, site.getuserbase())]
-    for folder in (here, os.path.join(top, "crates", "ccsds123", "out"), *prefixes):
+    for folder in (here, os.path.join(top, "build", "lib"), *prefixes):
         if os.path.isfile(os.path.join(folder, FILE)):
             yield os.path.join(folder, FILE)
     yield FILE
