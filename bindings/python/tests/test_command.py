@@ -138,6 +138,8 @@ class Commands(FolderTest):
         status, said = self.stopped(signal.SIGINT)
         self.assertEqual((status, said), (130, "ccsds123: stopped; no archive and no scene was changed\n"))
         self.assertEqual(sorted(os.listdir(self.path("archive"))), files)
+        self.assertEqual(self.stopped(signal.SIGTERM), (143, ""))
+        self.assertEqual(sorted(os.listdir(self.path("archive"))), files)
         self.assertEqual(self.run_words("verify", "archive", "--quiet"), (0, b"", ""))
 
 

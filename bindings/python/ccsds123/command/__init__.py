@@ -2,6 +2,7 @@
 
 from __future__ import annotations
 
+import signal
 import sys
 from typing import List, Optional
 
@@ -13,6 +14,7 @@ from .words import parsed
 def main(words: Optional[List[str]] = None) -> int:
     """Runs a command, and returns its exit status; what is wrong is one sentence on standard error."""
     given = parsed(words)
+    signal.signal(signal.SIGTERM, stop)
     try:
         status = COMMANDS[given.command](given)
         sys.stdout.flush()
@@ -27,3 +29,8 @@ def main(words: Optional[List[str]] = None) -> int:
     except KeyboardInterrupt:
         print("ccsds123: stopped; no archive and no scene was changed", file=sys.stderr)
         return STOPPED
+
+
+def stop(number: int, _) -> None:
+    """Ends the command by a signal, after what it had written is removed."""
+    raise SystemExit(128 + number)
