@@ -86,3 +86,23 @@ beside: all plain
 
 plain:
 	@cd bench && cargo build --release --quiet
+
+# ---- Other languages
+
+# The tests of the Python package, and 100 sets of parameters by Python's own library, are a part of `make test`.
+SCRIPTS += tests/python_bindings.py
+.PHONY: callers bindings tests/python_bindings.py
+tests/python_bindings.py:
+	$@
+
+# The first of these that has NumPy; `apt install python3-numpy` adds it to Debian's own.
+PYTHON = $(shell for it in python3 /usr/bin/python3; do $$it -c 'import numpy' 2> /dev/null && echo $$it && exit; done; echo python3)
+
+# Compares the Python package, with NumPy, and the Rust crate with the program on 500 sets of parameters, runs all their tests, and runs the lines of
+# docs/LIBRARY.md and docs/ARCHIVE.md as they are pasted. It needs Cargo, pkg-config and NumPy.
+bindings: all lib
+	$(PYTHON) tests/python_bindings.py --numpy 1 500
+	tests/rust_bindings.py 1 500
+	PYTHON=$(PYTHON) tests/pages.py
+
+callers: bindings
