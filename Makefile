@@ -5,9 +5,9 @@ PROGRAM = crates/ccsds/out/ccsds
 # has 4 GB for, and at least one.
 LANES = $(shell awk -v most="$$(nproc)" '/^MemAvailable/ { n = int($$2 / 4000000); print n < 1 ? 1 : n < most ? n : most }' /proc/meminfo)
 
-SCRIPTS = $(addprefix tests/, command.sh limits.sh options.py sizes.py pipelines.py refused.py guards.py definitions.py names.py fuzz)
+SCRIPTS = $(addprefix tests/, command.sh limits.sh options.py sizes.py pipelines.py library.py refused.py guards.py definitions.py names.py fuzz)
 
-.PHONY: all try show install test attack interop rows bench beside polite plain $(SCRIPTS)
+.PHONY: all lib try show install install-library callers arm real test attack interop rows bench beside polite plain $(SCRIPTS)
 
 # Proves and builds the program and its libraries, as many in parallel as there are processors.
 all:
@@ -21,9 +21,17 @@ try:
 show: all
 	@$(PROGRAM) show < samples/small.cube
 
-# Installs the program in PREFIX/bin.
-install: all
-	install -D $(PROGRAM) $(DESTDIR)$(PREFIX)/bin/ccsds
+# Proves and builds the library for C in build/lib, or for another processor in build/TARGET, as TARGET=aarch64-unknown-linux-gnu.
+lib:
+	@tools/library.py $(TARGET)
+
+# Installs the program, its manual page and its completion, and the library for C with its header, in PREFIX.
+install: all install-library
+	@tools/install.py program "$(PREFIX)" "$(DESTDIR)"
+
+# Installs the library for C alone.
+install-library: lib
+	@tools/install.py library "$(PREFIX)" "$(DESTDIR)"
 
 # Proves every crate from scratch, tries the must-fail edits, and runs the tests and the program. Then scripts test the
 # proved program on files and devices, with little memory and few threads, on all its options, at the greatest sizes, with
@@ -31,6 +39,7 @@ install: all
 # that each proved promise has its edits. The scripts run in parallel, and the output of each is printed when it ends.
 test:
 	RT_JOBS=$(LANES) rt ci
+	@$(MAKE) --no-print-directory lib
 	@$(MAKE) --no-print-directory --jobs="$$(nproc)" --output-sync $(SCRIPTS)
 
 $(SCRIPTS):
@@ -39,6 +48,20 @@ $(SCRIPTS):
 # Tries all wrong code, edits of the gate and slips, or that of CRATES="a b" alone: the prover has to refuse each.
 attack: all
 	@tools/attack.py $(CRATES)
+
+# Calls the library for C in every way: under sanitizers, in many threads, as C++, on 500 sets of parameters and 30,000 damaged files.
+callers: all lib
+	tests/library.py 2 500
+	tests/callers.py
+
+# Runs the library for C on ARM, under qemu.
+arm: all lib
+	@tools/library.py aarch64-unknown-linux-gnu
+	tests/arm.py
+
+# Compares the program with common compressors on a real scene, of Landsat 7, that a Debian package holds.
+real: all
+	bench/real
 
 # Compares our block-adaptive bodies with those of libaec's program `aec`, in both directions.
 interop: all plain

@@ -1,7 +1,7 @@
 #!/usr/bin/env python3
-"""Proves and builds a program, after the libraries that it depends on, which are built in parallel.
+"""Proves and builds a program or a static library, after the libraries that it depends on, which are built in parallel.
 
-    tools/build.py PROGRAM
+    tools/build.py CRATE
 
 `rt` works on one crate of a folder at a time, since it locks the libraries that the crate depends on. Therefore each library is built in
 a folder of its own outside the repository, with copies of its sources and of the build results that it needs. `rt` recognises a
@@ -28,11 +28,20 @@ QUICK = 0.1
 MUCH = 0.6
 
 
-def libraries_of_crates():
-    """Returns the libraries of this repository that each crate of crates.txt depends on directly."""
+def rows_of_crates():
+    """Returns the words before and after the colon of each line of crates.txt."""
     with open(os.path.join(TOP, "crates.txt"), encoding="utf-8") as file:
         rows = [line.partition("#")[0].partition(":") for line in file if line.strip()]
-    named = {name.split()[0]: below.split() for name, _, below in rows if name.strip()}
+    return [(name.split(), below.split()) for name, _, below in rows if name.strip()]
+
+
+def is_static_library(crate):
+    return any(name[0] == crate and "staticlib" in name for name, _ in rows_of_crates())
+
+
+def libraries_of_crates():
+    """Returns the libraries of this repository that each crate of crates.txt depends on directly."""
+    named = {name[0]: below for name, below in rows_of_crates()}
     return {name: [it for it in below if it in named] for name, below in named.items()}
 
 
@@ -110,13 +119,15 @@ class Build:
                 self.break_silence(running.values())
         return not self.failed
 
-    def build_program(self, crate):
-        """Builds the program in its own folder, by running it with the arguments and the input that are stored there."""
+    def build_top(self, crate, target):
+        """Builds a static library, for another target where one is named; or a program, by running it with its stored arguments and input."""
         self.begun[crate] = time.monotonic()
         self.say(f"        {crate} begins")
         folder = folder_of(crate)
         words, given = ["rt", "run"], os.path.join(folder, "stdin")
-        if os.path.isfile(os.path.join(folder, "args")):
+        if is_static_library(crate):
+            words = ["rt", "lib", *(["--target", target] if target else [])]
+        elif os.path.isfile(os.path.join(folder, "args")):
             with open(os.path.join(folder, "args"), encoding="utf-8") as file:
                 words += ["--", *file.read().splitlines()]
         with open(given if os.path.isfile(given) else os.devnull, "rb") as stdin, tempfile.TemporaryFile("w+") as said:
@@ -180,18 +191,18 @@ class Build:
             file.writelines(own)
 
 
-def main():
-    program = sys.argv[1]
+def build_crate(crate, target=None):
+    """Proves and builds a crate and what it depends on, and returns whether all is well."""
     if not shutil.which("rt"):
         sys.exit("the toolchain is needed to build this: its command rt isn't in the PATH (README names the versions)")
     start = time.monotonic()
     with tempfile.TemporaryDirectory(prefix="build-") as room:
-        build = Build(program, room)
-        is_well = build.build_libraries() and build.build_program(program)
+        build = Build(crate, room)
+        is_well = build.build_libraries() and build.build_top(crate, target)
     if is_well:
-        print(f"{program} is built: {(time.monotonic() - start) / 60:.1f} minutes in all", file=sys.stderr)
-    return 0 if is_well else 1
+        print(f"{crate} is built: {(time.monotonic() - start) / 60:.1f} minutes in all", file=sys.stderr)
+    return is_well
 
 
 if __name__ == "__main__":
-    sys.exit(main())
+    sys.exit(0 if build_crate(sys.argv[1]) else 1)
