@@ -8,8 +8,8 @@ use Rattle.std.proofs.Math.Nat.{add-mul, mul-add, mul-le-mul, mul-le-mul_left, m
 use Rattle.header_bits.specs.Bits.{fundamental}
 use Rattle.header_bits.specs.Lawful.{IsBlockSize}
 use Rattle.header_bits.proofs.Items.{all_drop}
-use Rattle.header_bits.proofs.Powers.{and_true}
-use Rattle.header_bits.proofs.Zeros.{length-fundamental}
+use Rattle.block_adaptive.proofs.Powers.{and_true}
+use Rattle.block_adaptive.proofs.Zeros.{length-fundamental}
 use Rattle.block_adaptive.specs.declared.options.CodeSet.{CodeSet}
 use Rattle.block_adaptive.specs.declared.options.Choice.{Choice}
 use Rattle.block_adaptive.specs.declared.options.Choice.TheVariants.{Uncoded, Second, Split}

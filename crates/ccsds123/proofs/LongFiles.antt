@@ -16,10 +16,10 @@ use Rattle.header_bits.proofs.TableNumbers.{total_table}
 use Rattle.predict_core.specs.Cubes.{IsCubeOf}
 use Rattle.sample_prediction.specs.Residual.{residuals}
 use Rattle.cube_core.specs.Order.{places}
-use Rattle.cube_predictors.proofs.Parts.{length-residuals}
+use Rattle.file_encoding.proofs.Owning.{length-residuals}
 use Rattle.sample_adaptive.specs.Settings.{settings}
 use Rattle.block_adaptive.specs.declared.options.CodeSet.{CodeSet}
-use Rattle.file_coding.specs.File.{body_by, body_of, fill_length, filled, packed_from, packed, file_bits, file_of_residuals, file_of}
+use Rattle.file_format.specs.File.{body_by, body_of, fill_length, filled, packed_from, packed, file_bits, file_of_residuals, file_of}
 use Rattle.ccsds123.specs.declared.records.ParamsRecord.{ParamsRecord}
 use Rattle.ccsds123.specs.Asked.{is_set, shape_of, start_by, count_by, params_of}
 use Rattle.ccsds123.specs.Bound.{most_header, most_sample_body, most_block_body, most_bytes, NoLongerFile}

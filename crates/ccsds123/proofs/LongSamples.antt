@@ -13,7 +13,7 @@ use Rattle.sample_adaptive.specs.declared.code_word.Code.{Code}
 use Rattle.sample_adaptive.specs.declared.statistics.Statistics.{Statistics}
 use Rattle.sample_adaptive.specs.Statistics.{CoderSettings, code_parameter, level, statistics}
 use Rattle.sample_adaptive.specs.Words.{Form, Plain, Escape, form_text, form_of, code_at}
-use Rattle.sample_adaptive.specs.Body.{band_numbers, words_after, sample_body}
+use Rattle.sample_adaptive.specs.Body.{band_residuals, words_after, sample_body}
 
 parameter_few : (bits : ℕ) (s : Statistics) → code_parameter bits s ≤ bits
 unfolding code_parameter
@@ -22,7 +22,7 @@ parameter_few bits s = grind (arith, greatest_holds)
 -- the limits of a code
 record Short (c : CoderSettings) (code : Code) : Type 0 where
   limit : code.limit ≤ c.umax
-  low : code.low ≤ c.bits
+  low : code.k ≤ c.bits
   bits : code.bits ≡ c.bits
 
 code_short : (c : CoderSettings) (z : ℕ) (numbers : List ℕ) → Short c (code_at c z numbers)
@@ -32,17 +32,17 @@ code_short c z (first ∷ later) = record { limit = omega arith; low = parameter
 
 word_short : (c : CoderSettings) (code : Code) (number : ℕ) → Short c code → length (form_text code (form_of code number)) ≤ c.umax + c.bits
 unfolding form_of form_text
-word_short c code number short = go (ltb (number / 2 ^ code.low) code.limit) refl
+word_short c code number short = go (ltb (number / 2 ^ code.k) code.limit) refl
   where
-    go : (b : Bool) → ltb (number / 2 ^ code.low) code.limit ≡ b
-        → length (form_text code (cond b (Plain (number / 2 ^ code.low) (number % 2 ^ code.low)) (Escape number))) ≤ c.umax + c.bits
+    go : (b : Bool) → ltb (number / 2 ^ code.k) code.limit ≡ b
+        → length (form_text code (cond b (Plain (number / 2 ^ code.k) (number % 2 ^ code.k)) (Escape number))) ≤ c.umax + c.bits
     go true test =
         omega (
           arith,
-          ltb-true (number / 2 ^ code.low) code.limit test,
-          length-append (replicate (number / 2 ^ code.low) false) (true ∷ bits_of code.low (number % 2 ^ code.low)),
-          length-replicate (number / 2 ^ code.low) false,
-          length-bits_of code.low (number % 2 ^ code.low),
+          ltb-true (number / 2 ^ code.k) code.limit test,
+          length-append (replicate (number / 2 ^ code.k) false) (true ∷ bits_of code.k (number % 2 ^ code.k)),
+          length-replicate (number / 2 ^ code.k) false,
+          length-bits_of code.k (number % 2 ^ code.k),
         )
     go false test =
         omega (
@@ -58,9 +58,9 @@ unfolding words_after
 words_short c gone before [] numbers = omega arith
 words_short c gone before (p ∷ ps) [] = omega arith
 words_short c gone before (p ∷ ps) (n ∷ ns) =
-    let code : Code = code_at c p.z (band_numbers p.z gone before) in
+    let code : Code = code_at c p.z (band_residuals p.z gone before) in
     let most : ℕ = c.umax + c.bits in
-    let one : length (form_text code (form_of code n)) ≤ most = word_short c code n (code_short c p.z (band_numbers p.z gone before)) in
+    let one : length (form_text code (form_of code n)) ≤ most = word_short c code n (code_short c p.z (band_residuals p.z gone before)) in
     let rest : List Bool = words_after c (gone ++ p ∷ []) (before ++ n ∷ []) ps ns in
     let others : length rest ≤ length ns * most = words_short c (gone ++ p ∷ []) (before ++ n ∷ []) ps ns in
     omega (arith, one, others, suc-mul (length ns) most, length-append (form_text code (form_of code n)) rest)

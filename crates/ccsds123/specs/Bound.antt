@@ -4,7 +4,7 @@ use Rattle.cube_core.specs.Image.{Image}
 use Rattle.cube_core.specs.Shape.{sample_count}
 use Rattle.header_bits.specs.Lawful.{IsLawful}
 use Rattle.predict_core.specs.Cubes.{IsCubeOf}
-use Rattle.file_coding.specs.File.{file_of}
+use Rattle.file_format.specs.File.{file_of}
 use Rattle.ccsds123.specs.declared.records.ParamsRecord.{ParamsRecord}
 use Rattle.ccsds123.specs.Asked.{is_set, shape_of, has_accumulators, params_of}
 
