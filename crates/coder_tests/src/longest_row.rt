@@ -5,6 +5,7 @@ ghost use Rattle.std.specs.List.{AllByRecursion};
 ghost use Rattle.cube_core.specs.Shape.{sample_count};
 ghost use Rattle.header_bits.specs.Lawful.{IsLawful};
 
+use crate::checks::same;
 use crate::sample_coder::{Settings, stats_of};
 use cube_core::kind::Kind;
 use cube_core::order::Order;
@@ -14,7 +15,6 @@ use header_bits::bit_writer::BitWriter;
 use header_bits::params::{Coder, CountStart, Params};
 use std::alloc::Global;
 use std::process::Abort;
-use test_checks::same;
 
 /// The number of columns of the longest row.
 const LONGEST: usize = 65_536;

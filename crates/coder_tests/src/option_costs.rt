@@ -2,7 +2,7 @@
 
 use block_adaptive::choice::option_cost;
 use block_adaptive::options::{Choice, CodeSet};
-use test_checks::same;
+use crate::checks::same;
 
 /// The whole set of options, for values of eight bits.
 const SET: CodeSet = CodeSet {

@@ -2,6 +2,7 @@
 
 ghost use Rattle.std.specs.Prelude.{◌≤◌};
 
+use crate::checks::same;
 use crate::row_words::{file_of, parts_of};
 use crate::rows::{
     BLOCK_ROWS, CUBE_A_ROWS, REGISTER_ROWS, RESTRICTED_ROWS, RUN_ROWS, SEGMENT_ROWS, SMALL_ROWS,
@@ -11,7 +12,6 @@ use header_bits::bit_reader::BitReader;
 use header_bits::bit_writer::BitWriter;
 use std::alloc::Global;
 use std::process::Abort;
-use test_checks::same;
 
 /// A generator of pseudo-random numbers from a seed.
 #[derive(Drop)]

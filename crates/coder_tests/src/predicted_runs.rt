@@ -3,6 +3,7 @@
 ghost use Rattle.std.specs.Prelude.{◌≡◌, ◌+◌, ◌*◌, ◌<◌, ◌≤◌};
 ghost use Rattle.header_bits.specs.Lawful.{IsLawful};
 
+use crate::checks::same;
 use cube_core::cube::Cube;
 use cube_core::kind::Kind;
 use cube_core::layout::{Layout, RawOrder};
@@ -11,7 +12,6 @@ use header_bits::params::Params;
 use predict_core::band::Band;
 use std::alloc::Global;
 use std::process::Abort;
-use test_checks::same;
 
 /// A generator of pseudo-random numbers from a seed.
 #[derive(Drop)]

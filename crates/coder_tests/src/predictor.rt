@@ -5,6 +5,7 @@ ghost use Rattle.cube_core.specs.Order.{IsOrder};
 ghost use Rattle.cube_core.specs.Examples.{sizes, unsigned};
 ghost use Rattle.header_bits.specs.Lawful.{IsLawful};
 
+use crate::checks::same;
 use crate::row_words::numbers_of;
 use cube_core::cube::Cube;
 use cube_core::cursor::Places;
@@ -17,7 +18,6 @@ use predict_core::band::Band;
 use predict_core::residual::{map_residual, unmap_residual};
 use std::alloc::Global;
 use std::process::Abort;
-use test_checks::same;
 
 /// Cube A: three columns, two rows and two bands.
 const CUBE_A: [u8; 12] = [100, 102, 105, 101, 104, 103, 110, 111, 115, 112, 113, 114];

@@ -4,7 +4,7 @@
 ghost use Rattle.std.specs.Prelude.{◌≡◌, ◌+◌, ◌^◌, ◌<◌, ◌≤◌, length};
 ghost use Rattle.sample_adaptive.specs.Settings.{AreForSamples};
 
-use crate::checks::{same_bytes, same_fault};
+use crate::checks::{same, same_bytes, same_fault};
 use crate::fills::filled;
 use crate::row_words::{bytes_of, fault_of, number_of, numbers_of, parts_of};
 use cube_core::fault::Fault;
@@ -16,7 +16,6 @@ use header_bits::params::{Coder, CountStart, Params};
 use sample_adaptive::stats::Stats;
 use std::alloc::Global;
 use std::process::Abort;
-use test_checks::same;
 
 /// The settings of the coder in a test.
 #[derive(Clone, Copy, Debug)]

@@ -2,11 +2,11 @@
 
 ghost use Rattle.std.specs.Prelude.{◌≡◌, length};
 
+use crate::checks::same;
 use cube_core::cube::Cube;
 use cube_core::kind::Kind;
 use cube_core::shape::Shape;
 use std::process::Abort;
-use test_checks::same;
 
 /// Returns the number of a cube's samples, computed from its shape alone.
 fn sample_count_of(cube: &Cube) -> u64

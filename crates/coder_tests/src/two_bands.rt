@@ -3,13 +3,13 @@
 ghost use Rattle.std.specs.Prelude.{◌≡◌, ◌<◌};
 ghost use Rattle.header_bits.specs.Lawful.{IsLawful};
 
+use crate::checks::same;
 use crate::predicted_runs::{Draw, Twice, cube_of, params_of, raster_index};
 use cube_core::cube::Cube;
 use header_bits::params::Params;
 use predict_core::band::Band;
 use std::alloc::Global;
 use std::process::Abort;
-use test_checks::same;
 
 /// A cube, and the predictors of two of its bands.
 #[derive(Drop)]

@@ -1,5 +1,6 @@
 //! Tests of command lines, and of what commands and their devices do with known bytes and refuse.
 
+mod checks;
 mod commands;
 mod engines;
 mod failing_streams;

@@ -2,6 +2,7 @@
 
 mod bit_reader;
 mod bit_writer;
+mod checks;
 mod cubes;
 mod faults;
 mod headers;

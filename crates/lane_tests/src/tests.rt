@@ -1,5 +1,6 @@
 //! Tests of lanes, feeds and workers.
 
+mod checks;
 mod feeds;
 mod gates;
 mod lanes;

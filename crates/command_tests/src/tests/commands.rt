@@ -3,6 +3,7 @@
 ghost use Rattle.std.specs.Prelude.{◌≡◌, ◌≢◌, codes};
 ghost use Rattle.ccsds_command.specs.Command.{HasLayout};
 
+use crate::tests::checks::same;
 use super::support::{ONE_BYTE, TWO_EQUAL_FILE, inspected, two_equal};
 use ccsds_command::command::{run_command, run_words};
 use command_devices::opener::Opener;
@@ -11,7 +12,6 @@ use command_devices::source::Source;
 use command_devices::stream::{ReaderSource, WriterSink};
 use command_words::settings::{CompressSettings, Settings};
 use cube_core::fault::Fault;
-use test_checks::same;
 use std::alloc::Global;
 use std::process::Abort;
 use std::sync::Wait;

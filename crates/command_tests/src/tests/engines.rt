@@ -3,6 +3,7 @@
 ghost use Rattle.std.specs.Prelude.{◌<◌};
 ghost use Rattle.cube_core.specs.Layout.{IsLayout};
 
+use crate::tests::checks::same;
 use super::support::{
     ONE_BYTE, TWO_BYTES, TWO_EQUAL_FILE, compressed, expanded, inspected, one_band, sink, two_equal,
 };
@@ -12,7 +13,6 @@ use ccsds_command::inspect::run_inspect;
 use command_devices::cut::{CutSink, CutSource};
 use cube_core::fault::{Fault, Rule};
 use cube_core::layout::Layout;
-use test_checks::same;
 use std::alloc::Global;
 use std::process::Abort;
 

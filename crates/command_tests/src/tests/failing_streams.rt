@@ -6,8 +6,8 @@ use command_devices::device::{InputDevice, OutputDevice};
 use command_devices::sink::Sink;
 use command_devices::source::{Failed, Source};
 use command_devices::stream::{ReaderSource, WriterSink};
+use crate::tests::checks::same;
 use cube_core::fault::Fault;
-use test_checks::same;
 use std::io::{self, Error, ErrorKind};
 use std::test::Fail;
 

@@ -1,9 +1,9 @@
 //! Tests of what each option does, but for `--restricted`, which `tests/options.py` tests.
 
+use crate::tests::checks::same;
 use super::lines::{IMAGE, compressed, compression, expansion, image_with, parsed, told};
 use command_words::settings::Settings;
 use cube_core::layout::{Layout, RawOrder};
-use test_checks::same;
 use std::alloc::Global;
 use std::process::Abort;
 

@@ -1,8 +1,8 @@
 //! Tests of command lines that are refused as `Usage`.
 
+use crate::tests::checks::same;
 use super::lines::{image_with, parsed};
 use cube_core::fault::Fault;
-use test_checks::same;
 use std::alloc::Global;
 use std::process::Abort;
 

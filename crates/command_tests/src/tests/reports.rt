@@ -1,12 +1,12 @@
 //! Tests of the line and the status of each fault, of hexadecimal digits, and of the lines of a header.
 
+use crate::tests::checks::same;
 use super::support::{TWO_EQUAL_FILE, inspected};
 use command_reports::hexadecimal::hexadecimal;
 use command_reports::lines::header_lines;
 use command_reports::report::{fault_line, status_of};
 use cube_core::fault::{Fault, Field, Rule};
 use header_bits::header::read_header;
-use test_checks::same;
 use std::alloc::Global;
 use std::process::Abort;
 use std::test::Fail;

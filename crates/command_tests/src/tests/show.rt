@@ -2,6 +2,7 @@
 
 ghost use Rattle.std.specs.Prelude.{◌≡◌, ◌<◌, [], Some};
 
+use crate::tests::checks::same;
 use super::support::sink;
 use ccsds_command::show::run_show;
 use command_devices::cut::{CutSink, CutSource};
@@ -9,7 +10,6 @@ use command_devices::sink::Sink;
 use command_devices::source::{Failed, Source};
 use command_devices::stream::{ReaderSource, WriterSink};
 use cube_core::fault::Fault;
-use test_checks::same;
 use std::alloc::Global;
 use std::process::Abort;
 

@@ -1,8 +1,8 @@
 //! Tests of the bit reader.
 
+use crate::tests::checks::same;
 use cube_core::fault::Fault;
 use header_bits::bit_reader::{BitReader, bits_after};
-use test_checks::same;
 
 #[test]
 fn zeros_end_at_a_one_or_at_the_limit(rt: HostRuntime) {

@@ -1,8 +1,8 @@
 //! Tests of the bit writer.
 
+use crate::tests::checks::same;
 use cube_core::fault::Fault;
 use header_bits::bit_writer::BitWriter;
-use test_checks::same;
 use std::process::Abort;
 
 #[test]

@@ -2,6 +2,7 @@
 
 ghost use Rattle.cube_core.specs.Layout.{IsLayout};
 
+use crate::tests::checks::same;
 use super::places::shape_of;
 use cube_core::cube::Cube;
 use cube_core::cursor::Places;
@@ -10,7 +11,6 @@ use cube_core::kind::Kind;
 use cube_core::layout::{Layout, RawOrder};
 use cube_core::order::{Order, Place};
 use cube_core::shape::Shape;
-use test_checks::same;
 use std::alloc::Global;
 use std::process::Abort;
 

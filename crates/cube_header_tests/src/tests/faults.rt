@@ -1,7 +1,7 @@
 //! The line that each fault prints: its number, its name and its values.
 
+use crate::tests::checks::same;
 use cube_core::fault::{Fault, Field, Rule};
-use test_checks::same;
 use std::alloc::Global;
 use std::process::Abort;
 

@@ -3,6 +3,7 @@
 ghost use Rattle.std.specs.Prelude.{◌<◌};
 ghost use Rattle.header_bits.specs.Lawful.{IsLawful};
 
+use crate::tests::checks::same;
 use cube_core::fault::{Fault, Field, Rule};
 use cube_core::kind::Kind;
 use cube_core::shape::Shape;
@@ -10,7 +11,6 @@ use header_bits::bit_reader::BitReader;
 use header_bits::bit_writer::BitWriter;
 use header_bits::header::{put_header, read_header, take_header, write_header};
 use header_bits::params::Params;
-use test_checks::same;
 use std::alloc::Global;
 use std::process::Abort;
 

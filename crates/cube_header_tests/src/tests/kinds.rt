@@ -1,7 +1,7 @@
 //! Kinds of samples: their ranges, and the offsets of samples from the least one.
 
+use crate::tests::checks::same;
 use cube_core::kind::Kind;
-use test_checks::same;
 use std::process::Abort;
 
 /// Asserts that a kind has these limits and this middle, and that it has no sample beyond its limits.

@@ -1,12 +1,12 @@
 //! A test of the longest header: the most bands, the most weights, and an accumulator constant for each band.
 
+use crate::tests::checks::same;
 use cube_core::fault::Fault;
 use cube_core::kind::Kind;
 use cube_core::shape::Shape;
 use header_bits::header::{read_header, write_header};
 use header_bits::params::{Coder, CountStart, Params, WeightStart};
 use header_bits::tables::{ConstantTable, WeightTable};
-use test_checks::same;
 use std::alloc::Global;
 use std::process::Abort;
 

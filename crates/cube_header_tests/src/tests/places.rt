@@ -3,10 +3,10 @@
 ghost use Rattle.std.specs.Prelude.{◌≡◌};
 ghost use Rattle.cube_core.specs.Order.{IsOrder};
 
+use crate::tests::checks::same;
 use cube_core::cursor::Places;
 use cube_core::order::{Order, Place, index_of, place_at};
 use cube_core::shape::Shape;
-use test_checks::same;
 use std::process::Abort;
 
 /// Returns a shape of these sizes.

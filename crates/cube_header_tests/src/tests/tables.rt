@@ -1,7 +1,7 @@
 //! Tests that weight tables and accumulator tables return the numbers that they were made from.
 
+use crate::tests::checks::same;
 use header_bits::tables::{ConstantTable, WeightTable};
-use test_checks::same;
 
 #[test]
 fn weights_are_returned(rt: HostRuntime) {

@@ -2,6 +2,7 @@
 
 ghost use Rattle.std.specs.Prelude.{◌≡◌, []};
 
+use crate::tests::checks::same;
 use super::gates::{Noted, StopAt, TakesOne};
 use band_rings::lane::lane;
 use band_rings::receiver::LaneReceiver;
@@ -9,7 +10,6 @@ use band_rings::sender::LaneSender;
 use lane_workers::feed::{Feed, LaneEnd};
 use lane_workers::gate::{Gate, OpenGate};
 use lane_workers::list_feed::ListFeed;
-use test_checks::same;
 use std::process::Abort;
 use std::sync::{Mutex, Wait};
 use std::test::Fail;

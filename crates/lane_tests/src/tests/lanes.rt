@@ -7,8 +7,8 @@ use band_rings::lane::lane;
 use band_rings::receiver::LaneReceiver;
 use band_rings::sender::LaneSender;
 use band_rings::settled::{SettledLane, settle};
+use crate::tests::checks::same;
 use cube_core::fault::{Fault, Field};
-use test_checks::same;
 use std::process::Abort;
 use std::test::Fail;
 

@@ -7,7 +7,7 @@ use band_rings::lane::lane;
 use band_rings::receiver::LaneReceiver;
 use band_rings::sender::LaneSender;
 use band_rings::settled::{SettledLane, settle};
-use test_checks::same;
+use crate::tests::checks::same;
 use std::process::Abort;
 use std::test::Fail;
 use std::thread;

@@ -3,13 +3,13 @@
 ghost use Rattle.std.specs.Prelude.{◌≡◌, ◌<◌, length};
 ghost use Rattle.cube_core.specs.Shape.{InRange};
 
+use crate::tests::checks::same;
 use super::gates::StopAt;
 use cube_core::fault::Fault;
 use lane_workers::gate::{Gate, OpenGate};
 use lane_workers::list_feed::ListFeed;
 use lane_workers::ready::Ready;
 use lane_workers::stage::Stage;
-use test_checks::same;
 use std::alloc::Global;
 use std::process::Abort;
 use std::sync::Wait;

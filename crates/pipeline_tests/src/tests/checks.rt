@@ -2,8 +2,15 @@
 
 use band_rings::settled::SettledLane;
 use coder_pipe::pipeline::Piped;
+use std::fmt::Debug;
 use std::process::Abort;
-use test_checks::same;
+
+/// Asserts that two values are equal, and prints both if they aren't.
+///
+/// Tests call this instead of the macro, so that the macro's expansion is proved only once.
+pub(crate) fn same<T: PartialEq + Debug + Drop>(rt: &impl Abort, found: T, wanted: T) {
+    assert_eq!(rt; found, wanted);
+}
 
 /// Asserts that a pipeline made this file, and how many residuals each of its lanes carried.
 pub(crate) fn same_piped(rt: &impl Abort, made: &Piped, file: &[u8], carried: &[u64]) {

@@ -1,5 +1,6 @@
 //! Tests that predictors run in parallel: at some gates, one predictor waits for what another does.
 
+use crate::tests::checks::same;
 use super::file_encoder::feeds_make_it;
 use super::cube_a::{BY_PIXEL, compressed};
 use super::gates::{FirstWaits, Meeting};
@@ -11,7 +12,6 @@ use std::process::Abort;
 use std::sync::Wait;
 use std::test::Fail;
 use std::thread::Threads;
-use test_checks::same;
 
 /// Asserts that the command with two predictors makes the file of cube A by pixel, past a gate.
 fn command_makes_it<R: Threads + Wait + Sync + Abort, G: Gate + Sync>(

@@ -1,5 +1,6 @@
 //! Tests of which plans are refused.
 
+use crate::tests::checks::same;
 use super::cube_a::{ROOM, SAMPLES, by_pixel, compressed, compressed_from, plan_of};
 use ccsds_command::CutSource;
 use coder_pipe::OpenGate;
@@ -8,7 +9,6 @@ use std::alloc::Global;
 use std::process::Abort;
 use std::sync::Wait;
 use std::thread::Threads;
-use test_checks::same;
 
 /// Returns the fault that a plan for cube A is refused for, if it is.
 fn refusal(

@@ -1,7 +1,7 @@
 //! Tests of the files that predictors in threads make of cube A.
 
 use super::cube_a::{BY_PIXEL, by_blocks, by_one, params_of, piped, piped_by_pixel};
-use crate::tests::checks::same_piped;
+use crate::tests::checks::{same, same_piped};
 use coder_pipe::{Gate, OpenGate};
 use cube_core::fault::Fault;
 use cube_core::order::Order;
@@ -11,7 +11,6 @@ use std::process::Abort;
 use std::sync::Wait;
 use std::test::Fail;
 use std::thread::Threads;
-use test_checks::same;
 
 /// Asserts that predictors by a deal make the file of cube A by pixel, and how many residuals each lane carries.
 fn make_it<R: Threads + Wait + Sync + Abort, G: Gate + Sync>(

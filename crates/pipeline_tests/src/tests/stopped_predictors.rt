@@ -4,6 +4,7 @@ ghost use Rattle.std.specs.Prelude.{◌≡◌, [], ◌∷◌, IfOk};
 ghost use Rattle.cube_core.specs.Image.{Image};
 ghost use Rattle.coder_pipe.specs.Sends.{AreFresh};
 
+use crate::tests::checks::same;
 use super::cube_a::{cube_of, plan_by_pixel};
 use super::gates::StopAt;
 use band_rings::lane::lane;
@@ -21,7 +22,6 @@ use std::sync::Wait;
 use std::test::Fail;
 use std::thread;
 use std::thread::Threads;
-use test_checks::same;
 
 /// How often a receiver may find no number before it gives up.
 const MOST_REFUSED: u32 = 10_000_000;

@@ -1,5 +1,6 @@
 //! Tests of pipelines that a gate stops.
 
+use crate::tests::checks::same;
 use super::cube_a::{compressed, params_of, piped, piped_by_pixel};
 use super::gates::{StopAt, StopTwo};
 use cube_core::fault::Fault;
@@ -9,7 +10,6 @@ use std::alloc::Global;
 use std::process::Abort;
 use std::sync::Wait;
 use std::thread::Threads;
-use test_checks::same;
 
 /// The number of a residual that no predictor has: each has those numbered 0 to 5.
 const NEVER: u64 = 6;

@@ -6,7 +6,7 @@ ghost use Rattle.coder_pipe.specs.Piping.{AreFeeds};
 
 use super::cube_a::plan_by_pixel;
 use super::whole_weave::{Woven, weave_all};
-use crate::tests::checks::same_piped;
+use crate::tests::checks::{same, same_piped};
 use coder_pipe::pipeline::{Piped, encode_piped};
 use coder_pipe::plan::Plan;
 use coder_pipe::{Gate, OpenGate};
@@ -17,7 +17,6 @@ use std::process::Abort;
 use std::sync::Wait;
 use std::test::Fail;
 use std::thread::Threads;
-use test_checks::same;
 
 /// The file of twelve residuals of zero, interleaved by pixel.
 const ZEROS: [u8; 26] = [

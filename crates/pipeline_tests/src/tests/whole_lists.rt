@@ -6,7 +6,7 @@ ghost use Rattle.coder_pipe.specs.Sends.{IsSeen};
 
 use super::cube_a::{by_blocks, cube_of, params_of, plan_of};
 use super::whole_weave::weave_all;
-use crate::tests::checks::same_lane;
+use crate::tests::checks::{same, same_lane};
 use band_rings::settled::SettledLane;
 use coder_pipe::OpenGate;
 use coder_pipe::encode_predicted::encode_predicted;
@@ -23,7 +23,6 @@ use std::sync::Wait;
 use std::test::Fail;
 use std::thread;
 use std::thread::Threads;
-use test_checks::same;
 
 /// A predictor of an image of two bands, and the list that it fills.
 #[derive(Drop)]

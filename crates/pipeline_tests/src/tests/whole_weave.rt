@@ -4,10 +4,10 @@ ghost use Rattle.std.specs.Prelude.{◌≡◌, ◌<◌};
 
 use coder_pipe::plan::Plan;
 use coder_pipe::weaver::Weaver;
+use crate::tests::checks::same;
 use cube_core::fault::Fault;
 use std::alloc::Global;
 use std::process::Abort;
-use test_checks::same;
 
 /// The result of weaving lists.
 #[derive(Drop)]

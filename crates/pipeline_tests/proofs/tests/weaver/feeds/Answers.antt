@@ -1,6 +1,6 @@
 use Rattle.std.proofs.Common.{refl}
 use Rattle.pipeline_tests.proofs.Zeros.{are_feeds}
-use Rattle.pipeline_tests.proofs.tests.file_encoder.feeds.Goals as goal
+use Rattle.pipeline_tests.proofs.tests.weaver.feeds.Goals as goal
 
 pub returns : goal.returns
 returns c = rw (c.in_ok-push-2.ensures.items, c.in_ok-push.ensures.items, c.new-feeds.ensures.items) (are_feeds _ _ c.args.plan.now _ _ c.requires.plan.0
