@@ -15,9 +15,8 @@ import tempfile
 
 sys.dont_write_bytecode = True
 from callers import EXAMPLE, SOURCE, check_damaged, ended
-from cases import slice_of, write_damaged, write_sets
+from cases import write_damaged, write_sets, write_worked
 from harness import PROGRAM, TOP, Room
-from library import fuzz_module
 
 TARGET = "aarch64-unknown-linux-gnu"
 COMPILER = "aarch64-linux-gnu-gcc"
@@ -36,17 +35,6 @@ def build(room, source):
         file.write(f'#!/bin/sh\nexec {RUNNER} {out} "$@"\n')
     os.chmod(script, 0o755)
     return script
-
-
-def write_worked(path):
-    """Writes the worked files, and returns what is due for each."""
-    fuzz, due = fuzz_module(), []
-    with open(path, "wb") as cases:
-        for file in fuzz.worked_files():
-            cases.write(slice_of(file))
-            status, line, raw = fuzz.due_of_expand(file)
-            due.append("fault " + line[len("ccsds: ") : -1] if status else "raw " + raw.hex())
-    return due
 
 
 def main():

@@ -1,9 +1,14 @@
 """Files of test cases for tests/clibrary.c: parameter sets with the files that they have, and damaged files."""
 
+import multiprocessing
+import os
 import struct
 
 from clibrary import Library, drawn_set
 from library import fuzz_module, raw_of, record_of, words_of
+
+FUZZ = fuzz_module()
+FILES = FUZZ.worked_files()
 
 
 def slice_of(data, width=1):
@@ -46,14 +51,30 @@ def write_sets(room, path, seed, count, library=None):
             cases.write((table_set if i % 4 == 3 else program_set)(room, library, f"{seed} {i}"))
 
 
+def damaged_case(number):
+    """Returns the damaged file of a number, and what is due for it: its line, or its raw bytes, or None for either."""
+    file = FUZZ.damaged_file(FILES, number)
+    return file, due_of(file)
+
+
+def due_of(file):
+    status, line, raw = FUZZ.due_of_expand(file)
+    return "fault " + line[len("ccsds: ") : -1] if status else None if raw is None else "raw " + raw.hex()
+
+
 def write_damaged(path, seed, count):
-    """Writes so many damaged files, and returns what is due for each: its line, or its raw bytes, or None for either."""
-    fuzz, due = fuzz_module(), []
-    files = fuzz.worked_files()
+    """Writes so many damaged files, and returns what is due for each. The model is slow, so each processor takes a part."""
+    numbers = range(seed << 32, (seed << 32) + count)
+    with open(path, "wb") as cases, multiprocessing.get_context("fork").Pool(os.cpu_count()) as pool:
+        return [write_case(cases, *found) for found in pool.imap(damaged_case, numbers, 64)]
+
+
+def write_worked(path):
+    """Writes the worked files, and returns what is due for each."""
     with open(path, "wb") as cases:
-        for number in range(seed << 32, (seed << 32) + count):
-            file = fuzz.damaged_file(files, number)
-            cases.write(slice_of(file))
-            status, line, raw = fuzz.due_of_expand(file)
-            due.append("fault " + line[len("ccsds: ") : -1] if status else None if raw is None else "raw " + raw.hex())
+        return [write_case(cases, file, due_of(file)) for file in FILES]
+
+
+def write_case(cases, file, due):
+    cases.write(slice_of(file))
     return due

@@ -220,10 +220,14 @@ static int run_damaged(struct cases cases)
 
 int main(int count, char **words)
 {
-    if (count == 4 && strcmp(words[1], "sets") == 0 && atoi(words[3]) >= 1 && atoi(words[3]) <= MOST_THREADS)
-        return run_sets(read_cases(words[2]), (unsigned)atoi(words[3]));
-    if (count == 3 && strcmp(words[1], "damaged") == 0)
-        return run_damaged(read_cases(words[2]));
-    fprintf(stderr, "clibrary: wrong words\n");
-    return 2;
+    int threads = count == 4 && strcmp(words[1], "sets") == 0 ? atoi(words[3]) : 0, status;
+    struct cases cases;
+    if (threads > MOST_THREADS || (threads < 1 && (count != 3 || strcmp(words[1], "damaged") != 0))) {
+        fprintf(stderr, "clibrary: wrong words\n");
+        return 2;
+    }
+    cases = read_cases(words[2]);
+    status = threads ? run_sets(cases, (unsigned)threads) : run_damaged(cases);
+    free(cases.bytes);
+    return status;
 }

@@ -1,2 +1,5 @@
 pub mod Answering
+pub mod LongBlocks
+pub mod LongFiles
+pub mod LongSamples
 pub mod Refused

@@ -7,6 +7,7 @@ pub mod decode;
 pub mod encode;
 pub mod exports;
 pub mod header;
+pub mod laws;
 mod names;
 pub mod records;
 pub mod refusal;
