@@ -22,7 +22,7 @@
  *     says. Such a pointer may be null where that number is 0;
  *   - nothing that a call writes overlaps anything else that it is given.
  * There is no state between calls: any number of threads may call at once. Memory comes from malloc and is given back before a call
- * returns. No call may be made from a signal handler. */
+ * returns. No call may be made from a signal handler, nor in the forked child of a process with threads. */
 #ifndef CCSDS123_H
 #define CCSDS123_H
 
@@ -266,9 +266,9 @@ int32_t ccsds123_encode(const ccsds123_params *params,
  * `weights` and `accumulators`, their lengths are stored in `*weight_count` and `*accumulator_count` (0 where the header has no such table),
  * and the header's length in bytes in `*header_length`.
  *
- * Faults: STRUCT_SIZE; SHORT_HEADER, RESERVED, FIELD_RANGE, DISAGREE and TABLE_ELSEWHERE, the first in the order of the header's
- * fields; WANT_OF_MEMORY where there is a table; ROOM of the weights, of the accumulators. In each case nothing is written to the tables and to
- * `params`; the two counts and `*header_length` are 0. */
+ * Faults: STRUCT_SIZE; READ; SHORT_HEADER, RESERVED, FIELD_RANGE, DISAGREE and TABLE_ELSEWHERE, the first in the order of the header's
+ * fields; WANT_OF_MEMORY where there is a table; ROOM of the weights, of the accumulators. In each case nothing is written to the tables
+ * and to `params`; the two counts and `*header_length` are 0. */
 int32_t ccsds123_read_header(const uint8_t *file, size_t file_length, ccsds123_params *params,
     int32_t *weights, size_t weight_room, uint64_t *weight_count,
     uint8_t *accumulators, size_t accumulator_room, uint64_t *accumulator_count,
