@@ -36,14 +36,24 @@ class Commands(FolderTest):
         self.assertEqual((status, len(output.splitlines()), said), (0, 4, ""))
         self.assertEqual(self.run_words("verify", "archive", "--quiet"), (0, b"", ""))
 
+    def read_to_the_end(self, number):
+        """Reads what was written to a terminal; the system ends it by an error."""
+        found = b""
+        with os.fdopen(number, "rb", buffering=0) as file:
+            try:
+                while part := file.read(1 << 12):
+                    found += part
+            except OSError:
+                pass
+        return found.decode()
+
     def test_bar_is_drawn_on_a_terminal_alone(self):
         self.scene()
         ours, theirs = pty.openpty()
         words = [sys.executable, "-m", "ccsds123", "compress", "scene.hdr", "archive", "--rows", "5"]
         subprocess.run(words, env={**os.environ, "PYTHONPATH": PACKAGE}, cwd=self.room.name, stdout=subprocess.DEVNULL, stderr=theirs, check=True)
         os.close(theirs)
-        drawn = os.read(ours, 1 << 16).decode()
-        os.close(ours)
+        drawn = self.read_to_the_end(ours)
         self.assertIn("scene.img [", drawn)
         self.assertIn("100 %", drawn)
 
@@ -135,12 +145,10 @@ class Commands(FolderTest):
         files = sorted(os.listdir(self.path("archive")))
         self.assertEqual(self.stopped(signal.SIGKILL)[0], -signal.SIGKILL)
         self.assertEqual(self.run_words("verify", "archive", "--quiet"), (0, b"", ""))
-        status, said = self.stopped(signal.SIGINT)
-        self.assertEqual((status, said), (130, "ccsds123: stopped; no archive and no scene was changed\n"))
-        self.assertEqual(sorted(os.listdir(self.path("archive"))), files)
-        self.assertEqual(self.stopped(signal.SIGTERM), (143, ""))
-        self.assertEqual(sorted(os.listdir(self.path("archive"))), files)
-        self.assertEqual(self.run_words("verify", "archive", "--quiet"), (0, b"", ""))
+        for number in (signal.SIGINT, signal.SIGTERM):
+            self.assertEqual(self.stopped(number), (128 + number, "ccsds123: stopped; no archive and no scene was changed\n"))
+            self.assertEqual(sorted(os.listdir(self.path("archive"))), files)
+            self.assertEqual(self.run_words("verify", "archive", "--quiet"), (0, b"", ""))
 
 
 if __name__ == "__main__":

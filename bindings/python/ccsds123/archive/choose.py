@@ -12,6 +12,7 @@ from .. import envi
 from ..coding import decode_cube, encode_raw
 from ..fault import Fault
 from ..params import Params
+from . import stopping
 from .index import ArchiveError
 from .scene import Scene
 
@@ -77,6 +78,7 @@ def choose(header_path: envi.Path, rows: Optional[int] = None, options: Optional
 
 def try_set(raw: bytes, header: envi.Header, members: dict, options: dict) -> Optional[Tried]:
     """Codes and decodes rows with one option set; returns nothing where it isn't lawful for them, such as full mode with one column."""
+    stopping.check()
     start = time.perf_counter()
     try:
         file = encode_raw(raw, Params(**members), header.interleave, header.sample_bytes, header.byteorder)

@@ -3,11 +3,17 @@
 from __future__ import annotations
 
 import os
-from concurrent.futures import FIRST_COMPLETED, Future, ThreadPoolExecutor, wait
-from typing import Callable, Iterable, Iterator, Optional, Set, Tuple, TypeVar
+from concurrent.futures import FIRST_COMPLETED, ThreadPoolExecutor, wait
+from itertools import islice
+from typing import Callable, Iterable, Iterator, Optional, Tuple, TypeVar
+
+from . import stopping
 
 Item = TypeVar("Item")
 Result = TypeVar("Result")
+
+LOOK = 0.1
+"""The seconds after which a signal is looked for, while jobs are under way."""
 
 
 def usual_jobs() -> int:
@@ -18,18 +24,16 @@ def usual_jobs() -> int:
 def each(work: Callable[[Item], Result], items: Iterable[Item], jobs: Optional[int] = None) -> Iterator[Tuple[Item, Result]]:
     """Yields each item with the result of its work, as they end. No more jobs than asked for are under way, so that memory stays bounded.
 
-    The library's calls let other threads run. Where a job fails the others are awaited, no further one begins, and its error is raised.
+    The library's calls let other threads run. Where a job fails or a signal came, no further one begins, the others are awaited, and the error is raised.
     """
-    count = jobs or usual_jobs()
+    count, left, named = jobs or usual_jobs(), iter(items), {}
     with ThreadPoolExecutor(count) as pool:
-        waiting: Set[Future] = set()
-        named = {}
-        for item in items:
-            job = pool.submit(work, item)
-            named[job] = item
-            waiting.add(job)
-            if len(waiting) >= count:
-                done, waiting = wait(waiting, return_when=FIRST_COMPLETED)
-                yield from ((named.pop(it), it.result()) for it in done)
-        done, _ = wait(waiting)
-        yield from ((named.pop(it), it.result()) for it in done)
+        while True:
+            for item in islice(left, count - len(named)):
+                named[pool.submit(work, item)] = item
+            if not named:
+                return
+            done, _ = wait(named, timeout=LOOK, return_when=FIRST_COMPLETED)
+            stopping.check()
+            for job in done:
+                yield named.pop(job), job.result()

@@ -6,7 +6,9 @@ from ..envi import EnviError
 from ..fault import Fault
 from .index import ArchiveError
 
-DONE, USAGE, REFUSED, MEMORY, DEVICE, STOPPED = 0, 1, 2, 3, 4, 130
+DONE, USAGE, REFUSED, MEMORY, DEVICE = 0, 1, 2, 3, 4
+BY_SIGNAL = 128
+"""What is added to the number of the signal that stopped a command."""
 BY_NUMBER = {12: MEMORY, 16: MEMORY, 18: DEVICE, 19: DEVICE, 20: USAGE}
 ERRORS = (ArchiveError, EnviError, Fault, MemoryError, OSError, ImportError, ValueError)
 """What a command answers with a sentence."""

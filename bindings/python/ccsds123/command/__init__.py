@@ -2,11 +2,11 @@
 
 from __future__ import annotations
 
-import signal
 import sys
 from typing import List, Optional
 
-from ..archive.status import DEVICE, ERRORS, STOPPED, sentence, status_of
+from ..archive import stopping
+from ..archive.status import BY_SIGNAL, DEVICE, ERRORS, sentence, status_of
 from .run import COMMANDS
 from .words import parsed
 
@@ -14,7 +14,7 @@ from .words import parsed
 def main(words: Optional[List[str]] = None) -> int:
     """Runs a command, and returns its exit status; what is wrong is one sentence on standard error."""
     given = parsed(words)
-    signal.signal(signal.SIGTERM, stop)
+    stopping.watch()
     try:
         status = COMMANDS[given.command](given)
         sys.stdout.flush()
@@ -26,11 +26,6 @@ def main(words: Optional[List[str]] = None) -> int:
     except ERRORS as error:
         print(f"ccsds123: {sentence(error)}", file=sys.stderr)
         return status_of(error)
-    except KeyboardInterrupt:
+    except stopping.Stopped as stopped:
         print("ccsds123: stopped; no archive and no scene was changed", file=sys.stderr)
-        return STOPPED
-
-
-def stop(number: int, _) -> None:
-    """Ends the command by a signal, after what it had written is removed."""
-    raise SystemExit(128 + number)
+        return BY_SIGNAL + stopped.number
