@@ -63,7 +63,7 @@ def span(least, most):
 def ranges(fields):
     """Returns the range of each option that has one, or the words that it takes."""
     words, found = source("command_words", "words.rt"), {}
-    own = re.findall(r"const (\w+): Range = Range \{\s*least: ([\d_]+),\s*most: ([\d_]+),?\s*\}", source("command_words", "options.rt"))
+    own = re.findall(r"const (\w+): ValueRange = ValueRange \{\s*least: ([\d_]+),\s*most: ([\d_]+),?\s*\}", source("command_words", "options.rt"))
     spans = {name: span(int(least.replace("_", "")), int(most.replace("_", ""))) for name, least, most in own}
     for constant in re.findall(r"number\(matches, fields::(\w+)\)", words):
         found[fields.name[constant]] = fields.range(constant)
