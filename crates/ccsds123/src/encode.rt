@@ -10,10 +10,10 @@ use crate::asked::{layout_of, params_of};
 use crate::records::{FaultRecord, LayoutRecord, ParamsRecord};
 use crate::refusal::{Refusal, Room, answer};
 use crate::rooms::put_bytes;
-use file_encoding::encode::encode_one;
 use cube_core::cube::Cube;
 use cube_core::fault::Fault;
 use cube_core::layout::Layout;
+use file_encoding::encode::encode_one;
 use header_bits::params::Params;
 use std::alloc::Global;
 

@@ -4,11 +4,11 @@ ghost use Rattle.std.specs.Prelude.{◌≡◌, IfOk, IfErr};
 ghost use Rattle.file_encoding.specs.Walks.{IsSeen};
 ghost use Rattle.coder_pipe.specs.Piping.{EndsEarly, IsFileOf, MayStopPart};
 
+use crate::cube_feed::cube_feeds;
 use crate::pipeline::{Piped, encode_piped};
+use crate::plan::Plan;
 use cube_core::cube::Cube;
 use cube_core::fault::Fault;
-use crate::cube_feed::cube_feeds;
-use crate::plan::Plan;
 use lane_workers::gate::Gate;
 use std::alloc::Global;
 use std::sync::Wait;

@@ -8,9 +8,9 @@ ghost use Rattle.coder_pipe.specs.Piping.{AreFeeds};
 ghost use Rattle.coder_pipe.specs.Standings.{feeds_of, gates_of, handed_of, IsAhead, IsWoven};
 ghost use Rattle.coder_pipe.specs.Stops.{MayStopAt};
 
+use crate::plan::Plan;
 use crate::weaver::Weaver;
 use cube_core::kind::Kind;
-use crate::plan::Plan;
 use lane_workers::feed::Feed;
 use lane_workers::gate::Gate;
 use lane_workers::stage::Stage;

@@ -8,11 +8,11 @@ ghost use Rattle.coder_pipe.specs.Standings.{feeds_of, gates_of, handed_of, IsWo
 ghost use Rattle.coder_pipe.specs.Stops.{MayStopAt};
 ghost use Rattle.coder_pipe.specs.Woven.{HasWoven};
 
+use crate::plan::Plan;
 use crate::run::{Outcome, drain, finish_all, join_all, start_all, stop_all, weave};
 use crate::weaver::Weaver;
 use band_rings::settled::SettledLane;
 use cube_core::fault::Fault;
-use crate::plan::Plan;
 use header_bits::params::Params;
 use lane_workers::feed::Feed;
 use lane_workers::gate::Gate;

@@ -8,9 +8,9 @@ ghost use Rattle.coder_pipe.specs.Stops.{MayStopAt, IfWhole, IfStopped};
 ghost use Rattle.coder_pipe.specs.Woven.{HasWoven};
 
 use crate::gather::{next_of_column, next_of_row};
+use crate::plan::Plan;
 use crate::weaver::Weaver;
 use band_rings::settled::SettledLane;
-use crate::plan::Plan;
 use lane_workers::feed::Feed;
 use lane_workers::gate::Gate;
 use lane_workers::patience::Patience;

@@ -8,10 +8,10 @@ ghost use Rattle.file_format.specs.File.{file_of_residuals};
 ghost use Rattle.file_encoding.specs.Own.{owners};
 ghost use Rattle.coder_pipe.specs.Woven.{AreOfOne, AreOwnersFrom, HasWoven, WeavesAll};
 
+use crate::plan::Plan;
 use cube_core::fault::Fault;
 use cube_core::order::Order;
 use cube_core::shape::Shape;
-use crate::plan::Plan;
 use file_encoding::file_encoder::FileEncoder;
 use header_bits::params::Params;
 use std::alloc::Global;

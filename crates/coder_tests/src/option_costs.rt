@@ -1,8 +1,8 @@
 //! A test of how many bits a block costs under each option.
 
+use crate::checks::same;
 use block_adaptive::choice::option_cost;
 use block_adaptive::options::{Choice, CodeSet};
-use crate::checks::same;
 
 /// The whole set of options, for values of eight bits.
 const SET: CodeSet = CodeSet {

@@ -5,8 +5,8 @@ ghost use Rattle.cube_core.specs.declared.fault.Fault.TheVariants.{Usage, WantOf
 ghost use Rattle.command_words.specs.Settings.{AreInRange};
 ghost use Rattle.command_words.specs.Words.{texts, Ask, AskForNone};
 
-use crate::words::settings;
 use crate::settings::Settings;
+use crate::words::settings;
 use cube_core::fault::Fault;
 use std::alloc::{AllocError, Global};
 

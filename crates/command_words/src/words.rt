@@ -22,9 +22,9 @@ ghost use Rattle.command_words.specs.Words.{texts, AreOfOptions, AreTaken, Ask, 
 
 use crate::option_values::{exponent, flag, number, number_in, word};
 use crate::options::{BYTES, PREDICTORS, SLOTS, compress_command, expand_command};
+use crate::settings::{CompressSettings, Settings};
 use clap::error::ErrorKind;
 use clap::{ArgMatches, Command, Error};
-use crate::settings::{CompressSettings, Settings};
 use cube_core::fault::Fault;
 use cube_core::kind::Kind;
 use cube_core::layout::{Layout, RawOrder};

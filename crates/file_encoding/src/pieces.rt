@@ -74,12 +74,7 @@ fn gather_places(first: usize, count: usize, bands: &[Band], residuals: &mut [u1
 
 /// Sends the residuals that some bands hold of place `i` of their pieces. Returns false if the taker has
 /// stopped.
-fn send_column<T: Taker>(
-    i: usize,
-    bands: &[Band],
-    room: &mut [u16; RUN],
-    taker: &mut T,
-) -> bool
+fn send_column<T: Taker>(i: usize, bands: &[Band], room: &mut [u16; RUN], taker: &mut T) -> bool
     requires place { i < 64 }
     requires may { T.may taker.old (held_at bands.now i) }
     ensures sent { T.takes taker.old taker.new result (held_at bands.now i) }

@@ -53,12 +53,7 @@ pub(crate) fn send_row<T: Taker>(
 }
 
 /// Sends the residuals of some bands, row after row. Returns false if the taker has stopped.
-fn send_rows<T: Taker>(
-    cube: &Cube,
-    params: &Params,
-    bands: &mut [Band],
-    taker: &mut T,
-) -> bool
+fn send_rows<T: Taker>(cube: &Cube, params: &Params, bands: &mut [Band], taker: &mut T) -> bool
     requires image { IsSeen params.now cube.now }
     requires at { AreAt params.now cube.now 0 bands.old }
     requires may { T.may taker.old (rows_of params.now cube.now (bands_of bands.old)) }
@@ -74,12 +69,7 @@ fn send_rows<T: Taker>(
 }
 
 /// Sends the residuals of some bands, band after band. Returns false if the taker has stopped.
-fn send_bands<T: Taker>(
-    cube: &Cube,
-    params: &Params,
-    bands: &mut [Band],
-    taker: &mut T,
-) -> bool
+fn send_bands<T: Taker>(cube: &Cube, params: &Params, bands: &mut [Band], taker: &mut T) -> bool
     requires image { IsSeen params.now cube.now }
     requires at { AreAt params.now cube.now 0 bands.old }
     requires may { T.may taker.old (flat_map (λ z. rows_of params.now cube.now (z ∷ [])) (bands_of bands.old)) }

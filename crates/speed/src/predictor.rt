@@ -22,9 +22,9 @@ use cube_core::kind::Kind;
 use cube_core::order::Order;
 use cube_core::shape::Shape;
 use file_encoding::walk::send_own;
-use predict_core::bands::all_bands;
 use header_bits::params::{Coder, Params, WeightStart};
 use header_bits::tables::WeightTable;
+use predict_core::bands::all_bands;
 use std::alloc::{AllocError, Global};
 
 /// Measures `forward` and `inverse` in each mode and order, and in full mode from a weight table.

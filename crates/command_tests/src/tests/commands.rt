@@ -3,8 +3,8 @@
 ghost use Rattle.std.specs.Prelude.{◌≡◌, ◌≢◌, codes};
 ghost use Rattle.ccsds_command.specs.Command.{HasLayout};
 
-use crate::tests::checks::same;
 use super::support::{ONE_BYTE, TWO_EQUAL_FILE, inspected, two_equal};
+use crate::tests::checks::same;
 use ccsds_command::command::{run_command, run_words};
 use command_devices::opener::Opener;
 use command_devices::sink::Sink;

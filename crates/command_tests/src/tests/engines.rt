@@ -3,10 +3,10 @@
 ghost use Rattle.std.specs.Prelude.{◌<◌};
 ghost use Rattle.cube_core.specs.Layout.{IsLayout};
 
-use crate::tests::checks::same;
 use super::support::{
     ONE_BYTE, TWO_BYTES, TWO_EQUAL_FILE, compressed, expanded, inspected, one_band, sink, two_equal,
 };
+use crate::tests::checks::same;
 use ccsds_command::compress::run_compress;
 use ccsds_command::expand::run_expand;
 use ccsds_command::inspect::run_inspect;

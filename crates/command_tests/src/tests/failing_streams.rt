@@ -1,12 +1,12 @@
 //! Tests of sources and sinks over readers and writers that fail once, and that count their calls.
 
+use crate::tests::checks::same;
 use ccsds_command::show::run_show;
 use command_devices::cut::{CutSink, CutSource};
 use command_devices::device::{InputDevice, OutputDevice};
 use command_devices::sink::Sink;
 use command_devices::source::{Failed, Source};
 use command_devices::stream::{ReaderSource, WriterSink};
-use crate::tests::checks::same;
 use cube_core::fault::Fault;
 use std::io::{self, Error, ErrorKind};
 use std::test::Fail;

@@ -1,7 +1,7 @@
 //! Tests of what `inspect` writes for headers, line by line.
 
-use crate::tests::checks::same;
 use super::support::{TWO_EQUAL_FILE, inspected};
+use crate::tests::checks::same;
 use std::test::Fail;
 
 /// The file of one sample of 200, by the block-adaptive coder.

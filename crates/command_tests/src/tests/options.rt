@@ -1,7 +1,7 @@
 //! Tests of what each option does, but for `--restricted`, which `tests/options.py` tests.
 
-use crate::tests::checks::same;
 use super::lines::{IMAGE, compressed, compression, expansion, image_with, parsed, told};
+use crate::tests::checks::same;
 use command_words::settings::Settings;
 use cube_core::layout::{Layout, RawOrder};
 use std::alloc::Global;

@@ -2,11 +2,11 @@
 
 ghost use Rattle.std.specs.Prelude.{◌≡◌, ◌<◌, ◌^◌, None};
 
+use crate::tests::checks::same;
 use command_devices::cut::{CutSink, CutSource};
 use command_devices::reading::{read_file, read_up_to};
 use command_devices::source::{Failed, Source};
 use command_devices::writing::write_all;
-use crate::tests::checks::same;
 use cube_core::fault::Fault;
 use std::alloc::Global;
 use std::process::Abort;

@@ -1,7 +1,7 @@
 //! Tests of command lines that are refused as `Usage`.
 
-use crate::tests::checks::same;
 use super::lines::{image_with, parsed};
+use crate::tests::checks::same;
 use cube_core::fault::Fault;
 use std::alloc::Global;
 use std::process::Abort;

@@ -1,7 +1,7 @@
 //! Tests of the line and the status of each fault, of hexadecimal digits, and of the lines of a header.
 
-use crate::tests::checks::same;
 use super::support::{TWO_EQUAL_FILE, inspected};
+use crate::tests::checks::same;
 use command_reports::hexadecimal::hexadecimal;
 use command_reports::lines::header_lines;
 use command_reports::report::{fault_line, status_of};

@@ -2,8 +2,8 @@
 
 ghost use Rattle.std.specs.Prelude.{◌≡◌, ◌<◌, [], Some};
 
-use crate::tests::checks::same;
 use super::support::sink;
+use crate::tests::checks::same;
 use ccsds_command::show::run_show;
 use command_devices::cut::{CutSink, CutSource};
 use command_devices::sink::Sink;

@@ -2,8 +2,8 @@
 
 ghost use Rattle.cube_core.specs.Layout.{IsLayout};
 
-use crate::tests::checks::same;
 use super::places::shape_of;
+use crate::tests::checks::same;
 use cube_core::cube::Cube;
 use cube_core::cursor::Places;
 use cube_core::fault::{Fault, Field};

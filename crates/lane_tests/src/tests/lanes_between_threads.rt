@@ -2,12 +2,12 @@
 
 ghost use Rattle.std.specs.Prelude.{◌≡◌};
 
+use crate::tests::checks::same;
 use band_rings::closed::ClosedLane;
 use band_rings::lane::lane;
 use band_rings::receiver::LaneReceiver;
 use band_rings::sender::LaneSender;
 use band_rings::settled::{SettledLane, settle};
-use crate::tests::checks::same;
 use std::process::Abort;
 use std::test::Fail;
 use std::thread;

@@ -3,8 +3,8 @@
 ghost use Rattle.std.specs.Prelude.{◌≡◌, ◌<◌, length};
 ghost use Rattle.cube_core.specs.Shape.{InRange};
 
-use crate::tests::checks::same;
 use super::gates::StopAt;
+use crate::tests::checks::same;
 use cube_core::fault::Fault;
 use lane_workers::gate::{Gate, OpenGate};
 use lane_workers::list_feed::ListFeed;

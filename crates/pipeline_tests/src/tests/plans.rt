@@ -1,7 +1,7 @@
 //! Tests of which plans are refused.
 
-use crate::tests::checks::same;
 use super::cube_a::{ROOM, SAMPLES, by_pixel, compressed, compressed_from, plan_of};
+use crate::tests::checks::same;
 use ccsds_command::CutSource;
 use coder_pipe::OpenGate;
 use cube_core::fault::{Fault, Field};

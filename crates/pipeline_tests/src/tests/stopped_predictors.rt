@@ -4,9 +4,9 @@ ghost use Rattle.std.specs.Prelude.{◌≡◌, [], ◌∷◌, IfOk};
 ghost use Rattle.cube_core.specs.Image.{Image};
 ghost use Rattle.coder_pipe.specs.Sends.{AreFresh};
 
-use crate::tests::checks::same;
 use super::cube_a::{cube_of, plan_by_pixel};
 use super::gates::StopAt;
+use crate::tests::checks::same;
 use band_rings::lane::lane;
 use band_rings::receiver::LaneReceiver;
 use band_rings::sender::LaneSender;

@@ -1,8 +1,8 @@
 //! Tests of pipelines that a gate stops.
 
-use crate::tests::checks::same;
 use super::cube_a::{compressed, params_of, piped, piped_by_pixel};
 use super::gates::{StopAt, StopTwo};
+use crate::tests::checks::same;
 use cube_core::fault::Fault;
 use cube_core::order::Order;
 use header_bits::params::Coder;

@@ -2,9 +2,9 @@
 
 ghost use Rattle.std.specs.Prelude.{◌≡◌, ◌<◌};
 
+use crate::tests::checks::same;
 use coder_pipe::plan::Plan;
 use coder_pipe::weaver::Weaver;
-use crate::tests::checks::same;
 use cube_core::fault::Fault;
 use std::alloc::Global;
 use std::process::Abort;
