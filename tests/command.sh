@@ -160,12 +160,22 @@ umask 026
 run 'OUT is new' 0 '' compress $two raw new
 umask 022
 if [ "$(stat -c %a new)" != 640 ]; then complain "a new OUT has the mode $(stat -c %a new)"; fi
+cp raw private
+chmod 600 private
+rm -f new
+run 'IN is private' 0 '' compress $two private new
+if [ "$(stat -c %a new)" != 600 ]; then complain "OUT of a private IN has the mode $(stat -c %a new)"; fi
+rm -f back
+run 'a private IN is expanded' 0 '' expand --bytes 1 new back
+if [ "$(stat -c %a back)" != 600 ]; then complain "expanded from a private IN, OUT has the mode $(stat -c %a back)"; fi
 
 # ---- pipes are opened once
 
 mkfifo from to
+rm -f coded
 cat raw > from &
 run 'IN is a pipe' 0 '' compress $two from coded
+if [ "$(stat -c %a coded)" != 644 ]; then complain "a new OUT of a pipe has the mode $(stat -c %a coded)"; fi
 holds 'IN is a pipe' coded "$file"
 timeout 60 cat to > got &
 run 'OUT is a pipe' 0 '' compress $two raw to

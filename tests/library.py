@@ -11,14 +11,13 @@ refusals: what C may give that is wrong, and damaged files, whose faults are the
 import importlib.machinery
 import importlib.util
 import os
-import random
 import sys
 import tempfile
 
 sys.dont_write_bytecode = True
-from clibrary import HEADER, INTERLEAVES, LIBRARY, MEMBERS, Layout, Library, drawn_set, weight_counts
+from clibrary import INTERLEAVES, LIBRARY, Layout, Library, drawn_set, weight_counts
+from clibrary_refusals import check_refusals
 from harness import PROGRAM, TOP, Room, raw_bytes, samples_of
-from model.bits import Refusal
 from model.coders import residuals
 from model.header import header as model_header
 from model.predictor import raw_bytes as model_raw_bytes
@@ -149,8 +148,6 @@ def check_damaged(room, library, fuzz, files, number):
 def main():
     seed, count = (int(word) for word in (sys.argv[1:3] + ["1", "100"][len(sys.argv[1:3]) :]))
     path, program = (sys.argv[3:5] + [LIBRARY, PROGRAM][len(sys.argv[3:5]) :])[:2]
-    from clibrary_refusals import check_refusals
-
     library, fuzz = Library(path), fuzz_module()
     with tempfile.TemporaryDirectory() as folder:
         room = Room(folder, program)
