@@ -5,6 +5,9 @@ use crate::ffi;
 use crate::layout::Layout;
 use crate::params::{usual, Params};
 
+/// No header is longer.
+const HEADER_BYTES: usize = 4 << 20;
+
 /// What a file's header says.
 #[derive(Clone, Debug, PartialEq, Eq)]
 pub struct Header {
@@ -133,7 +136,7 @@ pub fn read_header(file: &[u8]) -> Result<Header, Fault> {
     match read_with(file, 0, 0) {
         Err(Fault::Room { .. }) => {
             // A weight takes three bits or more, and an accumulator four.
-            let most = file.len() as u64 * 8 / 3 + 1;
+            let most = file.len().min(HEADER_BYTES) as u64 * 8 / 3 + 1;
             read_with(file, most, most)
         }
         other => other,
