@@ -4,7 +4,8 @@ use Rattle.cube_core.specs.declared.order.Order.TheVariants.{Bi}
 use Rattle.cube_core.specs.Order.{places}
 use Rattle.coder_pipe.specs.Piping.{AreFeeds}
 use Rattle.coder_pipe.specs.Plans.{PlanState}
-use Rattle.coder_pipe.specs.Weave.{owners_of, share}
+use Rattle.coder_pipe.specs.Weave.{share}
+use Rattle.file_encoding.specs.Own.{owners_of}
 
 abbrev pub zeros : List ℕ
 zeros = 0 ∷ 0 ∷ 0 ∷ 0 ∷ 0 ∷ 0 ∷ []
