@@ -1,9 +1,9 @@
 //! Tests that predictors run in parallel: at some gates, one predictor waits for what another does.
 
 use super::cube_a::{BY_PIXEL, compressed};
-use super::file_encoder::feeds_make_it;
 use super::gates::{FirstWaits, Meeting};
 use super::predicted_files::two_make_it;
+use super::weaver::feeds_make_it;
 use crate::tests::checks::same;
 use coder_pipe::Gate;
 use cube_core::fault::Fault;
