@@ -8,9 +8,12 @@ use command_devices::sink::Sink;
 use command_devices::source::Source;
 use command_devices::stream::{ReaderSource, WriterSink};
 use cube_core::fault::Fault;
-use std::fs::{self, File};
+use std::fs::{self, File, OpenOptions};
 use std::io::{self, Printer, Read, Stdin, Write};
-use std::os::unix::fs::MetadataExt;
+use std::os::unix::fs::{MetadataExt, OpenOptionsExt};
+
+/// The permissions of a file that is created, where none are passed on: all may read and write, but for the system's mask.
+const USUAL_MODE: u32 = 0o666;
 
 /// The system, reached through the runtime that `main` was given.
 #[derive(Drop)]
@@ -87,10 +90,33 @@ impl<'a> Opener for System<'a> {
         if leads_to(self.rt, name, input.reader()) {
             return Err(Fault::Write { written: 0 });
         }
-        match File::create(self.rt, name) {
+        match create_with(self.rt, name, mode_of(input.reader())) {
             Ok(file) => Ok(WriterSink::new(Writer::File(file))),
             Err(_) => Err(Fault::Write { written: 0 }),
         }
+    }
+}
+
+/// Creates a file with these permissions, as far as the system's mask leaves them, or empties one that exists, whose
+/// permissions stay.
+fn create_with(rt: &HostRuntime, name: &str, mode: u32) -> io::Result<File> {
+    let mut options = OpenOptions::new();
+    options.write(true);
+    options.create(true);
+    options.truncate(true);
+    options.mode(mode);
+    options.open(rt, name)
+}
+
+/// Returns the permissions that a new output gets: those of the file that is read, or the usual ones where the input is
+/// no file.
+fn mode_of(input: &Reader) -> u32 {
+    let Reader::File(file) = input else {
+        return USUAL_MODE;
+    };
+    match file.metadata() {
+        Ok(found) if found.is_file() => found.mode() & 0o777,
+        _ => USUAL_MODE,
     }
 }
 
