@@ -61,7 +61,7 @@ arm: all lib
 
 # Compares the program with common compressors on a real scene, of Landsat 7, that a Debian package holds.
 real: all
-	bench/real
+	bench/real.py
 
 # Compares our block-adaptive bodies with those of libaec's program `aec`, in both directions.
 interop: all plain

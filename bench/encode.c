@@ -1,4 +1,4 @@
-/* Codes a scene through the library for C, for bench/library.
+/* Codes a scene through the library for C, for bench/library.py.
  *
  *     encode COLUMNS ROWS BANDS BITS RAW FILE     samples of two bytes, the low one first, band after band */
 #include <ccsds123.h>
