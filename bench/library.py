@@ -1,7 +1,7 @@
 #!/usr/bin/env python3
 """Counts the instructions of coding a seeded scene by the program and through the library for C, as valgrind counts them.
 
-    bench/library [PROGRAM]
+    bench/library.py [PROGRAM]
 
 The scene has 128 columns, 128 rows and 32 bands of 12 bits. Both write the same file. Needs valgrind and a C compiler; `make lib` first.
 """

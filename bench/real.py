@@ -1,7 +1,7 @@
 #!/usr/bin/env python3
 """Compares the size of our file with those of common compressors on a real scene: Landsat 7, 349 columns, 352 rows, 6 bands of 8 bits.
 
-    bench/real [PROGRAM]
+    bench/real.py [PROGRAM]
 
 The scene is `tif/L7_ETMs.tif` of the Debian package r-cran-stars, which this downloads by `apt-get download` where STARS_TIF doesn't name the
 file; nothing of it is kept. GDAL turns it into an ENVI pair, whose raw samples every program gets. Prints a table in Markdown: the program, the bytes of its
