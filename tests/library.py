@@ -8,16 +8,14 @@ library has to read it back; with tables, which no command line can give, the mo
 refusals: what C may give that is wrong, and damaged files, whose faults are the model's. SEED defaults to 1 and COUNT to 100.
 """
 
-import importlib.machinery
-import importlib.util
-import os
 import sys
 import tempfile
 
 sys.dont_write_bytecode = True
+import fuzz
 from clibrary import INTERLEAVES, LIBRARY, Layout, Library, drawn_set, weight_counts
 from clibrary_refusals import check_refusals
-from harness import PROGRAM, TOP, Room, raw_bytes, samples_of
+from harness import PROGRAM, Room, raw_bytes, samples_of
 from model.coders import residuals
 from model.header import header as model_header
 from model.predictor import raw_bytes as model_raw_bytes
@@ -25,15 +23,6 @@ from model.predictor import raw_bytes as model_raw_bytes
 DAMAGED = 2000
 """How many damaged files are decoded."""
 BIG = Layout(0, 2, 0)
-
-
-def fuzz_module():
-    """Returns the script `fuzz`, which has no suffix, as a module."""
-    path = os.path.join(TOP, "tests", "fuzz")
-    loader = importlib.machinery.SourceFileLoader("fuzz", path)
-    module = importlib.util.module_from_spec(importlib.util.spec_from_loader("fuzz", loader))
-    loader.exec_module(module)
-    return module
 
 
 def words_of(members, layout):
@@ -132,7 +121,7 @@ def check_tables(room, library, seed):
 # ---- damaged files
 
 
-def check_damaged(room, library, fuzz, files, number):
+def check_damaged(room, library, files, number):
     """Decodes a damaged file, whose fault or raw bytes are the model's."""
     file = fuzz.damaged_file(files, number)
     status, line, raw = fuzz.due_of_expand(file)
@@ -148,7 +137,7 @@ def check_damaged(room, library, fuzz, files, number):
 def main():
     seed, count = (int(word) for word in (sys.argv[1:3] + ["1", "100"][len(sys.argv[1:3]) :]))
     path, program = (sys.argv[3:5] + [LIBRARY, PROGRAM][len(sys.argv[3:5]) :])[:2]
-    library, fuzz = Library(path), fuzz_module()
+    library = Library(path)
     with tempfile.TemporaryDirectory() as folder:
         room = Room(folder, program)
         check_refusals(room, library)
@@ -157,7 +146,7 @@ def main():
             check_tables(room, library, f"{seed} {i}")
         files = fuzz.worked_files()
         for number in range(DAMAGED * count // 100):
-            check_damaged(room, library, fuzz, files, (seed << 32) + number)
+            check_damaged(room, library, files, (seed << 32) + number)
     print(f"library.py: seed {seed}, {count} sets, {room.passed} passed, {room.failed} failed")
     return 1 if room.failed else 0
 
