@@ -223,12 +223,16 @@ def each_call(room, word):
     asked = room.asked()
     lines, last = wanted.rsplit(b"made again: ", 1)
     room.expect(f"calls, {word}", (status, last) == (DONE, b"0\n"), wanted)
-    again, names = 0, set()
+    again, names, unmet = 0, set(), 0
     for nth in range(1, MOST):
         found = room.run([word], refuse=nth, program=CALLS)
         if not room.met():
             room.expect(f"calls, {word}: nothing refused", found[2] == wanted, found)
-            room.expect(f"calls, {word}: all are refused in turn", nth > asked, (nth, asked))
+            # Which of its threads goes first may decide whether a run asks for one allocation more.
+            if nth <= asked:
+                unmet += 1
+                continue
+            room.expect(f"calls, {word}: all are refused in turn", unmet <= 2, (unmet, asked))
             return lines, again, names
         # If memory is refused before the first library call, or for the lines, the program ends with another status and prints nothing.
         early = found[0] != DONE and found[2] == b""

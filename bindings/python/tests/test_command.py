@@ -128,16 +128,23 @@ class Commands(FolderTest):
         self.assertRegex(said, "the library .*no.so can't be loaded .*make lib")
 
     def stopped(self, number):
-        """Starts to replace an archive, stops the run by a signal once it has written a piece, and returns its status and what it said."""
-        self.write("long.img", samples_of(4, 600, 2, "bil").tobytes())
-        self.write("long.hdr", self.read("scene.hdr").replace(b"samples = 7\nlines   = 20\nbands   = 3", b"samples = 4\nlines   = 600\nbands   = 2"))
-        ran = self.start("compress", "long.hdr", "archive", "--rows", "1", "--force", "--jobs", "2")
-        before, end = len(os.listdir(self.path("archive"))), time.monotonic() + 20
-        while len(os.listdir(self.path("archive"))) <= before and time.monotonic() < end:
-            time.sleep(0.002)
-        ran.send_signal(number)
-        _, said = ran.communicate(timeout=60)
-        return ran.returncode, said.decode()
+        """Starts to replace an archive, stops the run by a signal once it has written a piece, and returns its status and what it said.
+
+        On a busy machine a run may end before the signal comes: then the archive is made again, and a longer scene is tried."""
+        for rows in (600, 2_400, 9_600, 38_400):
+            self.write("long.img", samples_of(4, rows, 2, "bil").tobytes())
+            sizes = f"samples = 4\nlines   = {rows}\nbands   = 2".encode()
+            self.write("long.hdr", self.read("scene.hdr").replace(b"samples = 7\nlines   = 20\nbands   = 3", sizes))
+            ran = self.start("compress", "long.hdr", "archive", "--rows", "1", "--force", "--jobs", "2")
+            before, end = len(os.listdir(self.path("archive"))), time.monotonic() + 20
+            while len(os.listdir(self.path("archive"))) <= before and time.monotonic() < end:
+                time.sleep(0.002)
+            ran.send_signal(number)
+            _, said = ran.communicate(timeout=60)
+            if ran.returncode != 0:
+                return ran.returncode, said.decode()
+            self.run_words("compress", "scene.hdr", "archive", "--rows", "6", "--force")
+        return self.fail("each run ended before its signal came")
 
     def test_a_stopped_run_leaves_the_archive_that_was_there(self):
         self.scene()
