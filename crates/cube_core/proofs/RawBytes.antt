@@ -1,7 +1,7 @@
 -- The raw bytes of samples that were taken in from bytes are those bytes.
-use Rattle.std.proofs.Common.{◌≡◌, ◌+◌, ◌*◌, ◌/◌, ◌%◌, ◌^◌, ◌<◌, ◌≤◌, ◌-◌, ℕ, suc, zero, pos, negsuc, ◌-ℤ◌, Bool, true, false, leb, List, [], ◌∷◌, length, take}
+use Rattle.std.proofs.Common.{◌≡◌, ◌+◌, ◌*◌, ◌/◌, ◌%◌, ◌^◌, ◌<◌, ◌≤◌, ◌-◌, ℕ, suc, zero, pos, negsuc, ◌-ℤ◌, ℤ, Bool, true, false, leb, List, [], ◌∷◌, length, take}
 use Rattle.std.proofs.Common.{drop, replicate, get_or, refl, sym, ap, ◌∙◌, subst, arith, inl, inr, length-take, length-drop}
-use Rattle.std.proofs.lemmas.List.{take-append-drop, drop-drop, nil_from_length, get_or-take, get_or-drop, get_or_past, length-map}
+use Rattle.std.proofs.lemmas.List.{take-append-drop, drop-drop, nil_from_length, get_or-take, get_or-drop, get_or_past, length-map, length-append}
 use Rattle.std.proofs.lemmas.Bool.{cases_lt}
 use Rattle.cube_core.proofs.Words.{Bsq, Place, Layout, Sizes, AreSizes, sample_count, SampleKind, IsKind, sample_of, Image, IsCube, index_in, sample_at, ints}
 use Rattle.cube_core.proofs.Words.{samples_of, AreOffsets, places, IsLayout, order_of, raw_code, twos_complement, raw_value, bytes_at, sample_bytes, flat_map}
@@ -115,6 +115,25 @@ raw_bytes_again s k l bytes offsets layout some long small full here =
     (rw (length-places s (order_of l.order s) (lawful_order l.order s some)) long)
     (λ i d lt. each_sample s k l bytes offsets i d layout some long small full here
     (omega (arith, lt, length-places s (order_of l.order s) (lawful_order l.order s some))))
+
+-- ---- how many bytes there are
+
+length-sample_by : (little : Bool) (l : Layout) (v : ℤ) → l.little ≡ little → IsLayout l → length (sample_bytes l v) ≡ l.bytes
+unfolding sample_bytes
+length-sample_by little l v f (inl e) = rw e refl
+length-sample_by true l v f (inr e) = rw (e, f) refl
+length-sample_by false l v f (inr e) = rw (e, f) refl
+
+length-pieces : {A : Type 0} (f : A → List ℕ) (xs : List A) (w : ℕ) → ((x : A) → length (f x) ≡ w) → length (flat_map f xs) ≡ length xs * w
+length-pieces f [] w each = omega arith
+length-pieces f (x ∷ xs) w each = rw (length-append (f x) (flat_map f xs), each x, length-pieces f xs w each) (omega arith)
+
+pub length-raw_bytes : (c : Image) (l : Layout) → IsLayout l → 0 < sample_count c.shape → length (raw_bytes c l) ≡ sample_count c.shape * l.bytes
+unfolding raw_bytes
+length-raw_bytes c l layout some =
+    length-pieces (λ (p : Place). sample_bytes l (sample_at c p.z p.y p.x)) (places c.shape (order_of l.order c.shape)) l.bytes
+    (λ p. length-sample_by l.little l (sample_at c p.z p.y p.x) refl layout)
+    ∙ ap (λ (n : ℕ). n * l.bytes) (length-places c.shape (order_of l.order c.shape) (lawful_order l.order c.shape some))
 
 -- ---- offsets
 

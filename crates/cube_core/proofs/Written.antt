@@ -4,12 +4,13 @@ use Rattle.std.proofs.lemmas.List.{get_or-map, length-map}
 use Rattle.std.proofs.lemmas.Bool.{cases_eq}
 use Rattle.cube_core.proofs.Words.{Place, Layout, Sizes, sample_count, SampleKind, samples_of, Image, index_in, sample_at, IsOrder, IsPlaceOf, places}
 use Rattle.cube_core.proofs.Words.{place_index, order_of, bytes_at, sample_bytes, raw_bytes, samples_in, HasBytesAt, HaveBytes, sample_by, AreWritten}
-use Rattle.cube_core.proofs.Words.{CanBeWritten}
+use Rattle.cube_core.proofs.Words.{CanBeWritten, HasBytes, sample_of, Bsq}
 use Rattle.cube_core.proofs.Orders.{StandsAt, place_at_index, place_index_below, length-places}
 use Rattle.cube_core.proofs.Bounds.{index_below}
 use Rattle.cube_core.proofs.Offsets.{sample_at_offset}
 use Rattle.cube_core.proofs.RawBytes.{image, pieces_whole}
 use Rattle.cube_core.proofs.Raws.{place_of, lawful_order}
+use Rattle.cube_core.proofs.Walks.{sequential_index}
 
 -- the sample that stands at i is the i-th
 pub sample_there : (c : Image) (l : Layout) (q : Place) (i : ℕ) → IsOrder c.shape (order_of l.order c.shape) → i < sample_count c.shape
@@ -57,17 +58,22 @@ raw_bytes_written c s k l offsets bytes e some long full here =
     (rw (length-places s (order_of l.order s) (lawful_order l.order s some)) long)
     (λ i d lt. each_written s k l offsets bytes i d some full here (omega (arith, lt, length-places s (order_of l.order s) (lawful_order l.order s some))))))
 
-pub have_bytes_written : (c : Image) (s : Sizes) (k : SampleKind) (l : Layout) (offsets bytes : List ℕ)
-    → record { shape = s; kind = k; samples = samples_of k offsets } ≡ c → 0 < sample_count s → length offsets ≡ sample_count s → AreWritten s k l offsets bytes
+-- samples that can be written have their bytes
+pub have_bytes : (c : Image) (s : Sizes) (k : SampleKind) (l : Layout) (offsets : List ℕ)
+    → record { shape = s; kind = k; samples = samples_of k offsets } ≡ c → 0 < sample_count s → length offsets ≡ sample_count s → CanBeWritten s k l offsets
     → HaveBytes c l (sample_count c.shape)
-have_bytes_written c s k l offsets bytes e some full here = rw (← e) each
+have_bytes c s k l offsets e some full can = rw (← e) each
   where
     each : HaveBytes (image s k offsets) l (sample_count s)
     each j lt =
         let lawful = lawful_order l.order s some in
         let there = place_of s (order_of l.order s) j lawful lt in
-        rw (sample_there (image s k offsets) l there.0 j lawful lt there.1, sample_of_place s k offsets there.0 full there.1.place)
-        (here there.0 there.1.place).fits
+        rw (sample_there (image s k offsets) l there.0 j lawful lt there.1, sample_of_place s k offsets there.0 full there.1.place) (can there.0 there.1.place)
+
+pub have_bytes_written : (c : Image) (s : Sizes) (k : SampleKind) (l : Layout) (offsets bytes : List ℕ)
+    → record { shape = s; kind = k; samples = samples_of k offsets } ≡ c → 0 < sample_count s → length offsets ≡ sample_count s → AreWritten s k l offsets bytes
+    → HaveBytes c l (sample_count c.shape)
+have_bytes_written c s k l offsets bytes e some full here = have_bytes c s k l offsets e some full (λ p place. (here p place).fits)
 
 -- samples that have their bytes can be written
 pub can_be_written : (c : Image) (s : Sizes) (k : SampleKind) (l : Layout) (offsets : List ℕ)
@@ -80,3 +86,16 @@ can_be_written c s k l offsets e some full have p place =
     let stands : StandsAt s (order_of l.order s) p (place_index s (order_of l.order s) p) = record { place = place; index = refl } in
     rw (sample_there (image s k offsets) l p (place_index s (order_of l.order s) p) lawful lt stands, sample_of_place s k offsets p full place) at (all
     (place_index s (order_of l.order s) p) lt)
+
+-- the samples at all places are those of all offsets
+pub fit_at_places : (s : Sizes) (k : SampleKind) (l : Layout) (offsets : List ℕ) → length offsets ≡ sample_count s
+    → ((i : ℕ) → i < length offsets → HasBytes k l (sample_of k (get_or offsets i 0))) → CanBeWritten s k l offsets
+fit_at_places s k l offsets full all p place =
+    all (index_in s.columns s.rows p.z p.y p.x) (rw full (index_below s.columns s.rows s.bands p.z p.y p.x place.band place.row place.column))
+
+pub fit_at_offsets : (s : Sizes) (k : SampleKind) (l : Layout) (offsets : List ℕ) → length offsets ≡ sample_count s → CanBeWritten s k l offsets
+    → (i : ℕ) → i < length offsets → HasBytes k l (sample_of k (get_or offsets i 0))
+fit_at_offsets s k l offsets full all i lt =
+    let there = place_of s Bsq i tt (rw full at lt) in
+    let here : index_in s.columns s.rows there.0.z there.0.y there.0.x ≡ i = sym (sequential_index s there.0) ∙ there.1.index in
+    rw here at (all there.0 there.1.place)

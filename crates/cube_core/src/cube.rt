@@ -1,6 +1,6 @@
 //! A cube of samples, kept in two bytes each.
 
-ghost use Rattle.std.specs.Prelude.{◌≡◌, ◌≢◌, ◌↔◌, ◌*◌, ◌≤ℤ◌, length, replicate, pos, negsuc, IfOk, IfErr};
+ghost use Rattle.std.specs.Prelude.{◌≡◌, ◌≢◌, ◌↔◌, ◌*◌, ◌≤ℤ◌, None, length, replicate, pos, negsuc, IfOk, IfErr, IfSome};
 ghost use Rattle.cube_core.specs.Shape.{sample_count};
 ghost use Rattle.cube_core.specs.Image.{IsCube, IsPlace, sample_at, put};
 ghost use Rattle.cube_core.specs.Layout.{IsLayout, raw_bytes, HaveBytes, IsFirstUnfit};
@@ -14,7 +14,7 @@ use crate::fault::Fault;
 use crate::kind::Kind;
 use crate::layout::Layout;
 use crate::raw_read::read_raw;
-use crate::raw_write::write_raw;
+use crate::raw_write::{can_be_written, write_raw};
 use crate::shape::{Shape, index_at};
 use std::alloc::Global;
 use std::marker::Model;
@@ -113,6 +113,34 @@ impl Cube {
             Err(Fault::SampleRange {
                 index: self.first_unfit(layout),
             })
+        }
+    }
+
+    /// Writes the samples as raw bytes in this layout over as many bytes. Each sample has to fit in its own: `unfit` tells.
+    pub fn write_raw(&self, layout: Layout, bytes: &mut [u8])
+        requires layout { IsLayout layout }
+        requires fits { HaveBytes self.now layout (sample_count self.now.shape) }
+        requires room { length bytes.old ≡ sample_count self.now.shape * layout.bytes }
+        ensures { bytes.new ≡ raw_bytes self.now layout }
+    {
+        let shape = self.shape();
+        let _count = shape.sample_count();
+        // Each sample fits, so this is true.
+        let _all = write_raw(shape, self.kind, layout, &self.offsets, bytes);
+    }
+
+    /// Returns the index, in the layout's order, of the first sample that doesn't fit in its bytes, or `None` if each does.
+    /// There is such a sample only with one byte a sample and more than eight bits.
+    pub fn unfit(&self, layout: Layout) -> Option<u64>
+        requires { IsLayout layout }
+        ensures fits { result ≡ None → HaveBytes self.now layout (sample_count self.now.shape) }
+        ensures first { IfSome result (IsFirstUnfit self.now layout) }
+    {
+        let _count = self.shape.sample_count();
+        if can_be_written(self.kind, layout, &self.offsets) {
+            None
+        } else {
+            Some(self.first_unfit(layout))
         }
     }
 

@@ -1,10 +1,11 @@
 //! Samples written as raw bytes.
 
-ghost use Rattle.std.specs.Prelude.{◌≡◌, ◌*◌, ◌≤◌, IsTrue, length};
+ghost use Rattle.std.specs.Prelude.{ℕ, ◌≡◌, ◌↔◌, ◌*◌, ◌<◌, ◌≤◌, ◌^◌, IsTrue, length, slice_index};
 ghost use Rattle.cube_core.specs.declared.layout.RawOrder.TheVariants.{Bsq};
+ghost use Rattle.cube_core.specs.Kind.{sample_of};
 ghost use Rattle.cube_core.specs.Shape.{sample_count};
 ghost use Rattle.cube_core.specs.Offsets.{AreOffsets};
-ghost use Rattle.cube_core.specs.Layout.{IsLayout};
+ghost use Rattle.cube_core.specs.Layout.{IsLayout, HasBytes};
 ghost use Rattle.cube_core.specs.Pieces.{AreWritten, CanBeWritten};
 
 use crate::kind::Kind;
@@ -32,6 +33,25 @@ pub(crate) fn write_raw(
         RawOrder::Bil => write_lines(shape, kind, layout, shape.columns(), offsets, bytes),
         RawOrder::Bip => write_lines(shape, kind, layout, BLOCK, offsets, bytes),
     }
+}
+
+/// Returns whether the sample of each offset fits in its bytes.
+pub(crate) fn can_be_written(kind: Kind, layout: Layout, offsets: &[u16]) -> bool
+    requires layout { IsLayout layout }
+    requires range { (i : ℕ) → i < length offsets.now → slice_index offsets.now i < 2 ^ kind.bits }
+    ensures { IsTrue result ↔ ((i : ℕ) → i < length offsets.now → HasBytes kind layout (sample_of kind (slice_index offsets.now i))) }
+{
+    // As many bits hold every sample.
+    if kind.bits() <= 8 * layout.bytes {
+        return true;
+    }
+    let spelled = kind.in_bytes(layout.bytes);
+    for i in 0..offsets.len() {
+        if !spelled.has(kind.sample_of(offsets[i])) {
+            return false;
+        }
+    }
+    true
 }
 
 /// `write_raw` in band sequential order, in which the samples of a cube follow one another.
