@@ -1,5 +1,5 @@
 -- The answer of an export is that of its outcome.
-use Rattle.std.proofs.Common.{◌≡◌, ℤ, Result, refl}
+use Rattle.std.proofs.Common.{ℤ, Result}
 use Rattle.std.proofs.lemmas.Int.{to_z-of_z}
 use mir.Val.{SFits, of_z, to_z}
 use mir.Syntax.{w32}

@@ -1,5 +1,5 @@
 -- No body of the block-adaptive coder is longer than its blocks uncoded, with an identifier each.
-use Rattle.std.proofs.Common.{◌≡◌, ◌⊎◌, ◌+◌, ◌-◌, ◌*◌, ◌/◌, ◌<◌, ◌≤◌, ℕ, zero, suc, Bool, true, false, cond, eqb, leb, ◌&&◌, List, [], ◌∷◌, ◌++◌, length}
+use Rattle.std.proofs.Common.{◌≡◌, ◌+◌, ◌-◌, ◌*◌, ◌/◌, ◌≤◌, ℕ, zero, suc, Bool, true, false, cond, eqb, leb, ◌&&◌, List, [], ◌∷◌, ◌++◌, length}
 use Rattle.std.proofs.Common.{take, drop, replicate, refl, sym, ap, ◌∙◌, inl, inr, length-append, arith}
 use Rattle.std.specs.List.{AllByRecursion}
 use Rattle.std.proofs.lemmas.Bool.{eqb-true, eqb-false, leb-true}
@@ -11,12 +11,11 @@ use Rattle.header_bits.proofs.Items.{all_drop}
 use Rattle.block_adaptive.proofs.Powers.{and_true}
 use Rattle.block_adaptive.proofs.Zeros.{length-fundamental}
 use Rattle.block_adaptive.specs.declared.options.CodeSet.{CodeSet}
-use Rattle.block_adaptive.specs.declared.options.Choice.{Choice}
-use Rattle.block_adaptive.specs.declared.options.Choice.TheVariants.{Uncoded, Second, Split}
+use Rattle.block_adaptive.specs.declared.options.Choice.TheVariants.{Uncoded}
 use Rattle.block_adaptive.specs.Options.{width, splits, zero_identifier, cost}
-use Rattle.block_adaptive.specs.Segments.{filled, first_blocks, block_count, blocks}
+use Rattle.block_adaptive.specs.Segments.{first_blocks, block_count, blocks}
 use Rattle.block_adaptive.specs.DataSets.{CodedDataSet, Block, Run, RestOfSegment, run_code, rest_code, spelled, Cut, cut_of, left_at, blocks_in, spelling}
-use Rattle.block_adaptive.specs.Chosen.{shorter, shortest, chosen_option, zero_blocks, data_set_of, chosen_from, chosen_data_sets, chosen_block_body}
+use Rattle.block_adaptive.specs.Chosen.{shortest, chosen_option, zero_blocks, data_set_of, chosen_from, chosen_data_sets, chosen_block_body}
 use Rattle.block_adaptive.proofs.Costs.{uncoded_cost}
 
 width_few : (s : CodeSet) → width s ≤ 4

@@ -1,18 +1,17 @@
 -- No body of the sample-adaptive coder is longer than its numbers allow.
-use Rattle.std.proofs.Common.{◌≡◌, ◌+◌, ◌*◌, ◌/◌, ◌%◌, ◌^◌, ◌<◌, ◌≤◌, ℕ, suc, Bool, true, false, cond, ltb, List, [], ◌∷◌, ◌++◌, length, replicate, refl}
+use Rattle.std.proofs.Common.{◌≡◌, ◌+◌, ◌*◌, ◌/◌, ◌%◌, ◌^◌, ◌≤◌, ℕ, Bool, true, false, cond, ltb, List, [], ◌∷◌, ◌++◌, length, replicate, refl}
 use Rattle.std.proofs.Common.{length-append, arith}
 use Rattle.std.proofs.lemmas.Bool.{ltb-true}
 use Rattle.std.proofs.lemmas.List.{length-replicate}
 use Rattle.std.proofs.Math.Nat.{suc-mul}
 use Rattle.cube_core.specs.declared.order.Place.{Place}
-use Rattle.cube_core.specs.Greatest.{greatest}
 use Rattle.cube_core.proofs.Greatest.{greatest_holds}
 use Rattle.header_bits.specs.Bits.{bits_of}
 use Rattle.header_bits.proofs.Numbers.{length-bits_of}
 use Rattle.sample_adaptive.specs.declared.code_word.Code.{Code}
 use Rattle.sample_adaptive.specs.declared.statistics.Statistics.{Statistics}
-use Rattle.sample_adaptive.specs.Statistics.{CoderSettings, code_parameter, level, statistics}
-use Rattle.sample_adaptive.specs.Words.{Form, Plain, Escape, form_text, form_of, code_at}
+use Rattle.sample_adaptive.specs.Statistics.{CoderSettings, code_parameter, statistics}
+use Rattle.sample_adaptive.specs.Words.{Plain, Escape, form_text, form_of, code_at}
 use Rattle.sample_adaptive.specs.Body.{band_residuals, words_after, sample_body}
 
 parameter_few : (bits : ℕ) (s : Statistics) → code_parameter bits s ≤ bits

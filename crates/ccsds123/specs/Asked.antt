@@ -1,5 +1,5 @@
 -- What C asks for: the parameters that numbers and tables stand for, and why some stand for none.
-use Rattle.std.specs.Prelude.{ℕ, ◌≡◌, ◌⊎◌, ◌==◌, nat_le, not, ◌&&◌, ◌||◌, Bool, true, false, ℤ, List, [], ◌∷◌, length, if◌then◌else◌, Result, Ok, Err}
+use Rattle.std.specs.Prelude.{ℕ, ◌≡◌, ◌⊎◌, ◌==◌, nat_le, not, ◌&&◌, ◌||◌, Bool, true, false, ℤ, List, length, if◌then◌else◌, Result, Ok, Err}
 use Rattle.cube_core.specs.declared.fault.Fault.{Fault}
 use Rattle.cube_core.specs.declared.fault.Fault.TheVariants.{Disagree, WantOfMemory}
 use Rattle.cube_core.specs.declared.fault.Rule.TheVariants as rule

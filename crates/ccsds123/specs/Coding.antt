@@ -1,11 +1,11 @@
 -- What encoding and decoding the caller's bytes gives.
 use Rattle.std.specs.Prelude.{ℕ, ◌≡◌, ◌≢◌, ◌⊎◌, ◌*◌, ◌<◌, ℤ, List, length, Ok, Err}
 use Rattle.cube_core.specs.declared.fault.Fault.{Fault}
-use Rattle.cube_core.specs.declared.fault.Fault.TheVariants.{WantOfMemory, RawLength}
+use Rattle.cube_core.specs.declared.fault.Fault.TheVariants.{WantOfMemory, RawLength, SampleRange}
 use Rattle.cube_core.specs.declared.layout.Layout.{Layout}
 use Rattle.cube_core.specs.Shape.{sample_count}
 use Rattle.cube_core.specs.Image.{Image}
-use Rattle.cube_core.specs.Layout.{raw_bytes, HaveBytes}
+use Rattle.cube_core.specs.Layout.{raw_bytes, HaveBytes, IsFirstUnfit}
 use Rattle.cube_core.specs.Raw.{IsBadSample, IsUnfit}
 use Rattle.header_bits.specs.declared.params.Params.{Params}
 use Rattle.header_bits.specs.Bits.{bits_of_bytes}
@@ -83,6 +83,12 @@ pub record IsRawOfFile (l : Layout) (file raw : List ℕ) : Type 0 where
   pub decoded : IsFileOf file cube
   pub fits : HaveBytes cube l (sample_count cube.shape)
   pub raw_is : raw ≡ raw_bytes cube l
+
+-- why a cube's raw bytes don't go to a room: a sample doesn't fit in its byte; or else the room is too small for them
+abbrev pub IsPutFault : Image → Layout → ℕ → Refusal → Type 0
+IsPutFault c l had e =
+    ((i : ℕ) × (e ≡ refusal.Coder (SampleRange i)) × IsFirstUnfit c l i)
+    ⊎ (HaveBytes c l (sample_count c.shape) × (had < length (raw_bytes c l)) × (e ≡ refusal.Room room.Raw (length (raw_bytes c l)) had))
 
 -- why bytes have no raw bytes: they are no file, and this is their first fault; there is no memory; or a sample doesn't fit in its byte
 abbrev pub IsFileRefusal : Layout → List ℕ → Fault → Type 0

@@ -1,5 +1,5 @@
 -- What C is told of a header: the numbers of its parameters, and its tables.
-use Rattle.std.specs.Prelude.{ℕ, ◌≡◌, ◌⊎◌, ◌^◌, nat_le, Bool, if◌then◌else◌, ℤ, pos, List, [], ◌++◌, length, drop, Result, Ok, Err}
+use Rattle.std.specs.Prelude.{ℕ, ◌≡◌, ◌⊎◌, ◌^◌, nat_le, Bool, if◌then◌else◌, ℤ, pos, List, [], ◌++◌, length, drop, Ok, Err}
 use Rattle.cube_core.specs.declared.fault.Fault.{Fault}
 use Rattle.cube_core.specs.declared.fault.Fault.TheVariants.{Read}
 use Rattle.cube_core.specs.declared.order.Order.{Order}
