@@ -4,61 +4,57 @@ import multiprocessing
 import os
 import struct
 
-from clibrary import Library, drawn_set
-from library import fuzz_module, raw_of, record_of, words_of
+import fuzz
+from clibrary import Library, layout_of
+from parameter_sets import drawn
 
-FUZZ = fuzz_module()
-FILES = FUZZ.worked_files()
+FILES = fuzz.worked_files()
 
 
 def slice_of(data, width=1):
     return struct.pack("=I", len(data) // width) + data
 
 
-def case_of(params, layout, weights, accumulators, raw, file):
+def case_of(library, one, file):
     """Returns a set as tests/clibrary.c takes it."""
-    tables = slice_of(struct.pack(f"={len(weights)}i", *weights), 4) + slice_of(accumulators)
-    return bytes(params) + bytes(layout) + tables + slice_of(raw) + slice_of(file)
+    weights = one.weights or []
+    tables = slice_of(struct.pack(f"={len(weights)}i", *weights), 4) + slice_of(bytes(one.accumulators or []))
+    return bytes(library.params_of(one)) + bytes(layout_of(*one.layout)) + tables + slice_of(one.raw) + slice_of(file)
 
 
-def program_set(room, library, seed):
-    """Returns a set whose file the program made."""
-    members, _, _, layout, chance = drawn_set(seed)
-    _, raw = raw_of(members, layout, chance)
-    room.write("raw", raw)
-    room.expect(f"set {seed}: compressed", room.run("compress", *words_of(members, layout), "raw", "file"), (0, b"", ""))
-    return case_of(library.usual(**members), record_of(layout), [], b"", raw, room.read("file"))
+def program_file(room, one, name):
+    """Returns the file that the program makes of a set."""
+    room.write("raw", one.raw)
+    room.expect(f"{name}: compressed", room.run("compress", *one.words(), "raw", "file"), (0, b"", ""))
+    return room.read("file")
 
 
-def table_set(room, library, seed):
-    """Returns a set with tables, whose file the library made and the program expanded to the same raw bytes."""
-    members, weights, accumulators, layout, chance = drawn_set(seed, with_tables=True)
-    _, raw = raw_of(members, layout, chance)
-    params = library.usual(**members)
-    fault, file = library.encode(params, record_of(layout), raw, weights, accumulators)
+def table_file(room, library, one, name):
+    """Returns the file that the library makes of a set with tables, and that the program expands to the same raw bytes."""
+    fault, file = library.encoded(one)
     room.write("file", file)
-    words = "--layout", layout[0], "--bytes", layout[1], *(["--little"] if layout[2] else [])
-    room.expect(f"tables {seed}: encoded and expanded", (fault, room.run("expand", *words, "file", "back")), (None, (0, b"", "")))
-    room.expect(f"tables {seed}: expanded to its bytes", room.read("back"), raw)
-    return case_of(params, record_of(layout), weights, accumulators, raw, file)
+    room.expect(f"{name}: encoded and expanded", (fault, room.run("expand", *one.layout_words(), "file", "back")), (None, (0, b"", "")))
+    room.expect(f"{name}: expanded to its bytes", room.read("back"), one.raw)
+    return file
 
 
 def write_sets(room, path, seed, count, library=None):
     """Writes so many sets, every fourth with tables."""
     library = library or Library()
     with open(path, "wb") as cases:
-        for i in range(count):
-            cases.write((table_set if i % 4 == 3 else program_set)(room, library, f"{seed} {i}"))
+        for number in range(count):
+            one, name = drawn(seed, number), f"set {number}"
+            cases.write(case_of(library, one, table_file(room, library, one, name) if one.has_tables else program_file(room, one, name)))
 
 
 def damaged_case(number):
     """Returns the damaged file of a number, and what is due for it: its line, or its raw bytes, or None for either."""
-    file = FUZZ.damaged_file(FILES, number)
+    file = fuzz.damaged_file(FILES, number)
     return file, due_of(file)
 
 
 def due_of(file):
-    status, line, raw = FUZZ.due_of_expand(file)
+    status, line, raw = fuzz.due_of_expand(file)
     return "fault " + line[len("ccsds: ") : -1] if status else None if raw is None else "raw " + raw.hex()
 
 

@@ -1,8 +1,7 @@
-"""The library for C as the tests call it, by `ctypes`, and parameter sets that a seed determines."""
+"""The library for C as the tests call it, by `ctypes`."""
 
 import ctypes
 import os
-import random
 from ctypes import POINTER, byref, c_int32, c_int64, c_size_t, c_uint8, c_uint32, c_uint64
 
 from harness import TOP
@@ -53,6 +52,10 @@ def bytes_of(data):
     return (c_uint8 * len(data)).from_buffer_copy(data) if len(data) else None
 
 
+def layout_of(interleave, sample_bytes, little):
+    return Layout(INTERLEAVES.index(interleave), sample_bytes, little)
+
+
 def weights_of(numbers):
     return (c_int32 * len(numbers))(*numbers) if numbers else None
 
@@ -78,6 +81,15 @@ class Library:
         for name, value in members.items():
             setattr(params, name, value)
         return params
+
+    def params_of(self, one):
+        """Returns the parameters of a set (`parameter_sets`)."""
+        flags = {"weight_table": int(one.weights is not None), "accumulator_table": int(one.accumulators is not None)}
+        return self.usual(**one.members, **flags)
+
+    def encoded(self, one):
+        """Codes a set with its tables, and returns the fault and the file."""
+        return self.encode(self.params_of(one), layout_of(*one.layout), one.raw, one.weights or [], bytes(one.accumulators or []))
 
     def answer(self, name, *arguments):
         """Makes a call, and returns its fault, or None. The number that it returns has to be that of the fault."""
@@ -127,62 +139,3 @@ class Library:
         raw, length = (c_uint8 * room)(), c_uint64(99)
         fault = self.answer("ccsds123_decode", bytes_of(file), len(file), byref(layout), raw if room else None, room, byref(length))
         return fault, bytes(raw)[: length.value]
-
-
-# ---- parameter sets
-
-
-def weight_counts(params):
-    """Returns the number of weights of each band."""
-    return [min(band, params["previous"]) + (0 if params["reduced"] else 3) for band in range(params["bands"])]
-
-
-def image_members(chance):
-    """Returns the members of a small image, whose samples are few enough for the model."""
-    bits, bands = chance.randint(2, 16), chance.choice((1, 2, 3, 7, 19))
-    columns, rows = chance.choice((1, 2, 9, 64, 65)), chance.choice((1, 2, 5))
-    while columns * rows * bands > 1500:
-        columns, rows = max(1, columns // 2), max(1, rows // 2)
-    found = {"columns": columns, "rows": rows, "bands": bands, "bits": bits, "is_signed": chance.randint(0, 1)}
-    return found | {"order": chance.randint(0, 1), "depth": chance.choice((1, bands, chance.randint(1, bands)))}
-
-
-def predictor_members(chance, image):
-    alone, omega = image["columns"] == 1, chance.randint(4, 19)
-    least, exponents = max(32, image["bits"] + omega + 2), sorted(chance.randint(-6, 9) for _ in range(2))
-    found = {"user": chance.randint(0, 255), "word": chance.randint(1, 8), "previous": chance.randint(0, 15), "omega": omega}
-    found |= {"reduced": int(alone or chance.randint(0, 1)), "column_sums": int(alone or chance.randint(0, 1))}
-    return found | {"register_bits": chance.choice((least, 64)), "interval_log": chance.randint(4, 11), "vmin": exponents[0], "vmax": exponents[1]}
-
-
-def coder_members(chance, bits):
-    if chance.random() < 0.4:
-        restricted = int(bits <= 4 and chance.randint(0, 1))
-        return {"coder": 1, "block": chance.choice((8, 16, 32, 64)), "reference": chance.choice((1, 2, 64, 4096)), "restricted": restricted}
-    zero = chance.randint(1, 8)
-    star = chance.randint(max(4, zero + 1), 9)
-    return {"coder": 0, "umax": chance.randint(8, 32), "gamma_zero": zero, "gamma_star": star, "k": chance.randint(0, min(14, bits - 2))}
-
-
-def tables_of(chance, members):
-    """Returns members with tables, the weights, and the accumulators; or no tables, one time in three."""
-    weights, accumulators, members = [], b"", dict(members)
-    if chance.randint(0, 2):
-        resolution = chance.randint(3, members["omega"] + 3)
-        half = 1 << resolution - 1
-        weights = [chance.randrange(-half, half) for _ in range(sum(weight_counts(members)))]
-        members |= {"weight_table": 1, "weight_bits": resolution}
-    if chance.randint(0, 2) and members["coder"] == 0:
-        accumulators = bytes(chance.randint(0, min(14, members["bits"] - 2)) for _ in range(members["bands"]))
-        members |= {"accumulator_table": 1}
-    return members, weights, accumulators
-
-
-def drawn_set(seed, with_tables=False):
-    """Returns the members, weights, accumulators, layout, sizes of raw samples, and the samples of a set."""
-    chance = random.Random(seed)
-    members = image_members(chance)
-    members |= predictor_members(chance, members) | coder_members(chance, members["bits"])
-    layout = chance.choice(INTERLEAVES), chance.choice((1, 2) if members["bits"] <= 8 else (2,)), bool(chance.randint(0, 1))
-    members, weights, accumulators = tables_of(chance, members) if with_tables else (members, [], b"")
-    return members, weights, accumulators, layout, chance

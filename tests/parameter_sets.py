@@ -1,11 +1,14 @@
 """Sets of parameters and samples that a seed decides, for whatever codes by library: orders, coders, tables, restricted sets and raw layouts."""
 
 import dataclasses
+import functools
 import random
 
 from harness import raw_bytes, samples_of
 
 COLUMNS = (1, 2, 9, 17, 63, 64, 65)
+MOST = 1500
+"""The most samples of a set: tests/model, which is slow, reads those with tables."""
 
 
 @dataclasses.dataclass
@@ -18,15 +21,29 @@ class ParameterSet:
     interleave: str
     sample_bytes: int
     little: bool
-    raw: bytes
+    samples: list
+    """In band sequential order."""
 
     @property
     def has_tables(self):
         return self.weights is not None or self.accumulators is not None
 
+    @property
+    def layout(self):
+        return self.interleave, self.sample_bytes, self.little
+
+    @functools.cached_property
+    def raw(self):
+        return self.raw_in(*self.layout)
+
+    def raw_in(self, interleave, sample_bytes, little):
+        """Returns the raw bytes in a layout."""
+        shape = tuple(self.members[name] for name in ("columns", "rows", "bands"))
+        return raw_bytes(self.samples, shape, interleave, sample_bytes, little, bool(self.members["is_signed"]))
+
     def layout_words(self):
         """Returns the options of the raw layout."""
-        return ["--layout", self.interleave, "--bytes", self.sample_bytes, *(["--little"] if self.little else [])]
+        return words_of_layout(*self.layout)
 
     def words(self):
         """Returns all options of `compress`; no option holds a table."""
@@ -45,8 +62,14 @@ class ParameterSet:
         return list(map(str, found))
 
 
+def words_of_layout(interleave, sample_bytes, little):
+    return ["--layout", interleave, "--bytes", sample_bytes, *(["--little"] if little else [])]
+
+
 def image_of(chance):
     columns, rows, bands = chance.choice(COLUMNS), chance.choice((1, 2, 5)), chance.choice((1, 2, 5, 17))
+    while columns * rows * bands > MOST:
+        columns, rows = -(-columns // 2), -(-rows // 2)
     sizes = {"columns": columns, "rows": rows, "bands": bands, "bits": chance.choice((*range(2, 17), 2, 3, 4)), "is_signed": chance.randint(0, 1)}
     return {**sizes, "order": chance.randint(0, 1), "depth": chance.choice((1, bands, chance.randint(1, bands)))}
 
@@ -68,28 +91,30 @@ def coder_of(chance, bits):
     return {"coder": chance.randint(0, 1), **sample, **block}
 
 
+def weight_counts(members):
+    """Returns the number of weights of each band."""
+    return [min(band, members["previous"]) + (0 if members["reduced"] else 3) for band in range(members["bands"])]
+
+
 def weights_of(chance, members):
     """Returns the resolution of a weight table, and its entries."""
     bits = chance.randint(3, members["omega"] + 3)
-    directional = 0 if members["reduced"] else 3
-    count = sum(directional + min(band, members["previous"]) for band in range(members["bands"]))
-    return bits, [chance.randrange(-(1 << bits - 1), 1 << bits - 1) for _ in range(count)]
+    return bits, [chance.randrange(-(1 << bits - 1), 1 << bits - 1) for _ in range(sum(weight_counts(members)))]
 
 
-def drawn(seed, number):
-    """Returns the set of a number: one in four has tables."""
+def drawn(seed, number, tables=None):
+    """Returns the set of a number, with tables or without; unless that is said, one in four has them."""
     chance = random.Random(f"{seed} {number}")
     members = image_of(chance)
     bits, signed = members["bits"], bool(members["is_signed"])
     members.update(user=chance.randrange(256), word=chance.randint(1, 8), **predictor_of(chance, members["columns"], bits), **coder_of(chance, bits))
     weights = accumulators = None
-    if number % 4 == 3:
+    if number % 4 == 3 if tables is None else tables:
         if members["coder"] == 0 and chance.random() < 0.7:
             accumulators = [chance.randint(0, min(14, bits - 2)) for _ in range(members["bands"])]
         if accumulators is None or chance.random() < 0.7:
             members["weight_bits"], weights = weights_of(chance, members)
-    shape = tuple(members[name] for name in ("columns", "rows", "bands"))
     low = -(1 << bits - 1) if signed else 0
-    samples = samples_of(chance, shape[0] * shape[1] * shape[2], low, low + (1 << bits) - 1)
+    samples = samples_of(chance, members["columns"] * members["rows"] * members["bands"], low, low + (1 << bits) - 1)
     layout = chance.choice(("bsq", "bil", "bip")), chance.choice((1, 2) if bits <= 8 else (2,)), chance.random() < 0.5
-    return ParameterSet(members, weights, accumulators, *layout, raw_bytes(samples, shape, *layout, signed))
+    return ParameterSet(members, weights, accumulators, *layout, samples)
