@@ -124,7 +124,14 @@ def check_raw(room, library):
     high = bytes(46) + b"\x10\0"
     room.expect("a sample of 13 bits", library.encode(params, BIG, high), ((13, 0, 23, 0), b""))
     wide = library.encode(params, BIG, bytes(24) + b"\1\0" * 12)[1]
-    room.expect("a sample of 9 bits in a byte", library.decode(wide, Layout(0, 1, 0), 24), ((13, 0, 12, 0), b""))
+    # The room is also too small: what doesn't fit in its byte comes first.
+    for had in (24, 23, 0):
+        space, length, fault = (c_uint8 * 24)(*[0xEE] * 24), c_uint64(9), Fault()
+        library.calls.ccsds123_decode(bytes_of(wide), len(wide), byref(Layout(0, 1, 0)), space, had, byref(length), byref(fault))
+        room.expect(f"a sample of 9 bits in a byte, room of {had}", (fault.told(), length.value), ((13, 0, 12, 0), 0))
+        room.expect(f"a sample of 9 bits in a byte, room of {had}: unwritten", bytes(space), bytes([0xEE] * 24))
+    narrow = library.encode(params, BIG, bytes(24) + b"\0\xff" * 12)[1]
+    room.expect("samples that fit in a byte, though not all of their kind do", library.decode(narrow, Layout(0, 1, 0), 24), (None, bytes(12) + b"\xff" * 12))
 
 
 def check_files(room, library):
