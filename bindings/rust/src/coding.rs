@@ -4,6 +4,8 @@ use crate::fault::Fault;
 use crate::ffi;
 use crate::layout::Layout;
 use crate::params::{usual, Params};
+use crate::samples::Sample;
+use std::mem::size_of;
 
 /// No header is longer.
 const HEADER_BYTES: usize = 4 << 20;
@@ -115,17 +117,23 @@ pub fn encode(params: &Params, layout: Layout, raw: &[u8]) -> Result<Vec<u8>, Fa
 /// # Errors
 /// The first fault of the bytes, where they are no file; `Choice` of the layout; `SampleRange` of a sample that doesn't fit in one byte; `WantOfMemory`.
 pub fn decode(file: &[u8], layout: Layout) -> Result<(Params, Vec<u8>), Fault> {
+    decode_items(file, layout)
+}
+
+/// Decodes a file into numbers, whose bytes are the raw bytes of its scene in this layout.
+pub(crate) fn decode_items<T: Sample>(file: &[u8], layout: Layout) -> Result<(Params, Vec<T>), Fault> {
     let params = read_header(file)?.params;
-    let wanted = params.raw_length(layout)?;
+    let wanted = params.raw_length(layout)? / size_of::<T>() as u64;
     // Where there is no memory for the samples, what is wrong with the file itself is still told first.
-    let mut raw: Vec<u8> = room_for(wanted).unwrap_or_default();
+    let mut items: Vec<T> = room_for(wanted).unwrap_or_default();
+    let room = items.capacity() * size_of::<T>();
     let mut length = 0;
-    // SAFETY: all pointers are valid, the slice has as many bytes as are said, and `raw` as much room as its capacity.
-    answer(|fault| unsafe { ffi::ccsds123_decode(file.as_ptr(), file.len(), &layout.raw(), raw.as_mut_ptr(), raw.capacity(), &mut length, fault) })
+    // SAFETY: all pointers are valid, the slice has as many bytes as are said, and `items` as much room as its capacity.
+    answer(|fault| unsafe { ffi::ccsds123_decode(file.as_ptr(), file.len(), &layout.raw(), items.as_mut_ptr().cast(), room, &mut length, fault) })
         .map_err(|fault| if matches!(fault, Fault::Room { .. }) { Fault::WantOfMemory } else { fault })?;
-    // SAFETY: the call wrote that many bytes.
-    unsafe { raw.set_len(length as usize) };
-    Ok((params, raw))
+    // SAFETY: the call wrote that many bytes, and any bits are a number.
+    unsafe { items.set_len(length as usize / size_of::<T>()) };
+    Ok((params, items))
 }
 
 /// Reads the header that the bytes begin with; more may follow, or be left out. No header is longer than 4 MB.

@@ -1,6 +1,6 @@
 //! Samples as numbers in memory.
 
-use crate::coding::{decode, encode};
+use crate::coding::{decode_items, encode};
 use crate::fault::Fault;
 use crate::layout::{Interleave, Layout};
 use crate::params::Params;
@@ -11,7 +11,7 @@ mod sealed {
 }
 
 /// A whole number of 8 or 16 bits.
-pub trait Sample: Copy + Default + sealed::Sealed {
+pub trait Sample: Copy + sealed::Sealed {
     const SIGNED: bool;
 
     /// Whether the bits stand for another number under the other sign.
@@ -50,10 +50,7 @@ pub fn encode_samples<T: Sample>(params: &Params, interleave: Interleave, sample
 /// # Errors
 /// Those of [`decode`](crate::decode), and `SampleRange` of the first sample that isn't a number of this type.
 pub fn decode_samples<T: Sample>(file: &[u8], interleave: Interleave) -> Result<(Params, Vec<T>), Fault> {
-    let (params, raw) = decode(file, Layout::native(interleave, size_of::<T>() as u32))?;
-    let mut samples = vec![T::default(); raw.len() / size_of::<T>()];
-    // SAFETY: both have as many bytes, any bits are a number, and they don't overlap.
-    unsafe { std::ptr::copy_nonoverlapping(raw.as_ptr(), samples.as_mut_ptr().cast::<u8>(), raw.len()) };
+    let (params, samples): (Params, Vec<T>) = decode_items(file, Layout::native(interleave, size_of::<T>() as u32))?;
     if params.signed != T::SIGNED {
         if let Some(index) = samples.iter().position(|sample| sample.depends_on_sign()) {
             return Err(Fault::SampleRange { index: index as u64 });
