@@ -13,7 +13,7 @@
  *     if (ccsds123_encode(&params, NULL, 0, NULL, 0, &layout, raw, raw_length, file, bound, &length, &fault) != 0) ..
  *
  * A call that can be refused returns 0 where it did what it says, and otherwise the number of the fault, which `*fault` then tells
- * whole. Each call lists its faults in the order in which they are tested: the first one is told.
+ * whole. Each call lists its faults, without the prefix CCSDS123_, in the order in which they are tested: the first one is told.
  *
  * Every call is proved to return, and to read and write nothing but what its arguments give it: whatever bytes and numbers they hold,
  * no call overruns a buffer, overflows or stops the program. This holds where
@@ -21,8 +21,9 @@
  *   - each pointer to a table, to bytes or to text has as many readable (where written: writable) items behind it as the number after it
  *     says. Such a pointer may be null where that number is 0;
  *   - nothing that a call writes overlaps anything else that it is given.
- * There is no state between calls: any number of threads may call at once. Memory comes from malloc and is given back before a call
- * returns. No call may be made from a signal handler, nor in the forked child of a process with threads. */
+ * There is no state between calls: any number of threads may call at once. Memory comes from malloc, two bytes for each sample, and
+ * where a scene is coded its file, too; it is given back before a call returns. No call may be made from a signal handler, nor in the
+ * forked child of a process with threads. */
 #ifndef CCSDS123_H
 #define CCSDS123_H
 
@@ -226,8 +227,11 @@ size_t ccsds123_fault_text(const ccsds123_fault *fault, char *text, size_t room)
  * are set to 0, for the caller to fill in, and `is_signed` to 0. */
 void ccsds123_params_init(ccsds123_params *params);
 
-/* Checks parameters with their tables: `weights` is the table of initial weights, band after band, each band's in the order of its
- * components; `accumulators` has an initialization constant for each band. Without a table pass NULL and 0.
+/* Checks parameters with their tables. Without a table pass NULL and 0.
+ *
+ * `weights` are the initial weights, each a signed number of `weight_bits` bits, band after band. In full mode a band has three, of the north,
+ * the west and the north-west difference; then, in either mode, one for each band before it, the nearest first, up to `previous` of them.
+ * `accumulators` has an initialization constant for each band, 0 to `bits` - 2.
  *
  * Faults: STRUCT_SIZE; CHOICE of the order, of the coder; FIELD_RANGE of columns, rows, bands, bits; DISAGREE where there are weights without
  * `weight_table` (DEFAULT_WITH_TABLE), or accumulators where none are used (ACCUMULATOR_TABLE_LENGTH); WANT_OF_MEMORY where there is a table; FIELD_RANGE
@@ -279,8 +283,8 @@ int32_t ccsds123_read_header(const uint8_t *file, size_t file_length, ccsds123_p
  *
  * Faults: CHOICE of the interleave, of the bytes; READ; those of the header, as of `ccsds123_read_header`; WANT_OF_MEMORY where the header
  * has a table; TRUNCATED where fewer bits follow the header than any body has; WANT_OF_MEMORY; TRUNCATED, BAD_CODE, BAD_OPTION or
- * RUN_PAST_SEGMENT, the first in the order of the bits; TOO_LONG; BAD_FILL; WANT_OF_MEMORY; SAMPLE_RANGE of the first sample that doesn't
- * fit in one byte; ROOM of the raw bytes. In each case nothing is written to `raw`, and `*raw_length` is 0. To know the room beforehand,
+ * RUN_PAST_SEGMENT, the first in the order of the bits; TOO_LONG; BAD_FILL; SAMPLE_RANGE of the first sample that doesn't fit in one
+ * byte; ROOM of the raw bytes. In each case nothing is written to `raw`, and `*raw_length` is 0. To know the room beforehand,
  * read the header and call `ccsds123_raw_length`. */
 int32_t ccsds123_decode(const uint8_t *file, size_t file_length, const ccsds123_layout *layout,
     uint8_t *raw, size_t raw_room, uint64_t *raw_length, ccsds123_fault *fault);

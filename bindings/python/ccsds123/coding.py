@@ -88,7 +88,11 @@ def decode(file: Any, *, interleave: str = "bsq") -> Any:
 
 
 def decode_cube(file: Any, *, interleave: str = "bsq", sample_bytes: Optional[int] = None, byteorder: str = sys.byteorder) -> Cube:
-    """Returns the samples of a file with its parameters, laid out as asked for."""
+    """Returns the samples of a file with its parameters, in this interleave and byte order.
+
+    A sample has `sample_bytes` bytes, 1 or 2; unless that is given, 1 where samples have at most 8 bits. Raises Fault where the bytes aren't a
+    file, and where a sample doesn't fit in its byte.
+    """
     params = header(file)
     size = sample_bytes or (1 if params.bits <= 8 else 2)
     layout, length, wanted = c_layout(interleave, size, byteorder), c_uint64(), c_uint64()

@@ -12,7 +12,11 @@ INTERLEAVES = ("bsq", "bil", "bip")
 
 @dataclass(frozen=True)
 class WeightTable:
-    """Custom initial weights: signed numbers of `bits` bits each, band after band, in each band in the order of its components."""
+    """Custom initial weights: signed numbers of `bits` bits each, band after band.
+
+    In full mode a band has three, of the north, the west and the north-west difference; then, in either mode, one for each band before it, the
+    nearest first, up to `previous` of them. `Params.weight_count` is how many there are in all.
+    """
 
     bits: int
     values: Tuple[int, ...]
@@ -22,7 +26,8 @@ class WeightTable:
 class Params:
     """How an image is predicted and coded; the defaults are those of the command `ccsds compress`.
 
-    `order` is `"bsq"` or `"bi"`, `coder` is `"sample"` or `"block"`; what the other coder uses is ignored. docs/COMMAND.md has the range of each.
+    `order` is `"bsq"` or `"bi"`, `coder` is `"sample"` or `"block"`; what the other coder uses is ignored. docs/COMMAND.md has meaning and range of
+    each under the option of its name, as `--column-sums` of `column_sums`. `vmin` and `vmax` are the exponents themselves, -6 to 9.
     """
 
     columns: int

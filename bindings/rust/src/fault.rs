@@ -79,7 +79,7 @@ pub enum Fault {
     TooLong { bits: u64 },
     /// Memory could not be allocated.
     WantOfMemory,
-    /// The raw sample with this index, in the order of the layout, is out of range.
+    /// The raw sample with this index, in the order of the layout, is out of range; or, where a file is decoded, doesn't fit in its byte.
     SampleRange { index: u64 },
     /// There are `had` raw bytes, and the sizes ask for `wanted`.
     RawLength { wanted: u64, had: u64 },

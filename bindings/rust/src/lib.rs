@@ -1,7 +1,8 @@
 //! Lossless compression of image cubes, as CCSDS 123.0-B-1 defines it, with the sample-adaptive coder of that standard and the
 //! block-adaptive coder of CCSDS 121.0-B.
 //!
-//! The coder itself is a proved library (`libccsds123.a`); this crate is a safe face of it.
+//! The coder itself is a proved library; this crate is a safe face of it. The build script links `libccsds123.a` from the folder that
+//! `CCSDS123_LIB_DIR` names, else from where the repository builds it (`make lib`), else from where pkg-config finds it.
 //!
 //! ```
 //! use ccsds123::{decode_samples, encode_samples, Interleave, Params};

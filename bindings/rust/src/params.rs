@@ -58,7 +58,10 @@ pub enum Order {
     },
 }
 
-/// Initial weights: signed numbers of `bits` bits each, band after band, in each band in the order of its components.
+/// Initial weights: signed numbers of `bits` bits each, band after band.
+///
+/// In full mode a band has three, of the north, the west and the north-west difference; then, in either mode, one for each band before it, the
+/// nearest first, up to `previous` of them. [`Params::weight_count`] is how many there are in all.
 #[derive(Clone, Debug, PartialEq, Eq)]
 pub struct WeightTable {
     /// Q, 3 to Ω + 3.
