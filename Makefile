@@ -99,7 +99,7 @@ tests/python_bindings.py:
 PYTHON = $(shell for it in python3 /usr/bin/python3; do $$it -c 'import numpy' 2> /dev/null && echo $$it && exit; done; echo python3)
 
 # Compares the Python package, with NumPy, and the Rust crate with the program on 500 sets of parameters, runs all their tests, and runs the lines of
-# docs/LIBRARY.md and docs/ARCHIVE.md as they are pasted. It needs Cargo, pkg-config and NumPy.
+# docs/COMMAND.md, docs/LIBRARY.md and docs/ARCHIVE.md as they are pasted. It needs Cargo, pkg-config and NumPy.
 bindings: all lib
 	$(PYTHON) tests/python_bindings.py --numpy 1 500
 	tests/rust_bindings.py 1 500

@@ -1,11 +1,11 @@
 #!/usr/bin/env python3
-"""Runs the lines of docs/LIBRARY.md and docs/ARCHIVE.md as they are pasted into a shell.
+"""Runs the lines of docs/COMMAND.md, docs/LIBRARY.md and docs/ARCHIVE.md as they are pasted into a shell.
 
     [PYTHON=COMMAND] tests/pages.py [PAGE..]
 
 The blocks of each page that are marked `sh` run one after another in a shell of their own, from the top of the repository, with an empty folder as
-home; those of ARCHIVE.md after the first one of LIBRARY.md. Each has to end with status 0. Cargo, a C compiler, pkg-config and NumPy have to be there; PYTHON is the Python that
-has NumPy, where `python3` has not.
+home; those of ARCHIVE.md after the first one of LIBRARY.md. Each has to end with status 0. Cargo, a C compiler, pkg-config and NumPy have to be
+there; PYTHON is the Python that has NumPy, where `python3` has not.
 """
 
 import os
@@ -17,7 +17,9 @@ import tempfile
 
 TOP = os.path.dirname(os.path.dirname(os.path.abspath(__file__)))
 BLOCK = re.compile(r"^```sh\n(.*?)^```$", re.S | re.M)
-FIRST = "LIBRARY.md"
+PAGES = ("COMMAND.md", "LIBRARY.md", "ARCHIVE.md")
+AFTER = {"ARCHIVE.md": "LIBRARY.md"}
+"""The pages that are pasted after the first block of another."""
 LIMIT = 1800
 """The most seconds that a page may take; its first block builds the library where it isn't built."""
 
@@ -45,7 +47,7 @@ def executable(path, flags):
 
 def run_page(page):
     """Runs the blocks of a page, and returns how many ended well, and how many did not."""
-    blocks = blocks_of(page) if page == FIRST else [blocks_of(FIRST)[0], *blocks_of(page)]
+    blocks = [*(blocks_of(AFTER[page])[:1] if page in AFTER else []), *blocks_of(page)]
     script = "".join(f"echo '== {number}' >&2\n{block}" for number, block in enumerate(blocks))
     with tempfile.TemporaryDirectory() as home:
         how = {"capture_output": True, "text": True, "timeout": LIMIT, "check": False}
@@ -60,7 +62,7 @@ def run_page(page):
 
 def main():
     passed = failed = 0
-    for page in sys.argv[1:] or (FIRST, "ARCHIVE.md"):
+    for page in sys.argv[1:] or PAGES:
         well, wrong = run_page(page)
         passed, failed = passed + well, failed + wrong
     print(f"pages.py: {passed} passed, {failed} failed")
