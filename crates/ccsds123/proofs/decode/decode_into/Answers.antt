@@ -4,7 +4,7 @@ use Rattle.ccsds123.proofs.Refused.{file_refused}
 use Rattle.ccsds123.proofs.decode.decode_into.Goals as goal
 
 pub returns-in-Err : goal.returns-in-Err
-returns-in-Err c = file_refused _ c.in_ok-laid.laid _ _ c.in-Err.fault c.in_ok-laid.ensures.layout.0 c.in_ok-laid.ensures.layout.2
+returns-in-Err c = file_refused _ c.in_ok-laid.laid _ _ _ c.in_ok-laid.ensures.layout.0 c.in_ok-laid.ensures.layout.2
     (sym c.in_ok-test_length.ensures.refused) (elim c.in-Err.ensures.fault [ inl memory ↦ inl memory | inr none ↦ inr (inl none) ])
 
 pub returns-in-Ok : goal.returns-in-Ok
