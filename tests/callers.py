@@ -33,18 +33,18 @@ def ended(*words, **how):
 
 
 def check_example(room):
-    """Builds the example by pkg-config against a prefix that the library is installed in, as C and as C++, and runs it."""
+    """Builds the example by pkg-config against a prefix that the library is installed in, as C, as C++ and with sanitizers, and runs it."""
     prefix = room.path("prefix")
     room.expect("make install", ended("make", "-s", "-C", TOP, "install-library", f"PREFIX={prefix}")[0], 0)
     paths = dict(os.environ, PKG_CONFIG_PATH=os.path.join(prefix, "lib", "pkgconfig"))
     flags = subprocess.run(["pkg-config", "--cflags", "--libs", "ccsds123"], env=paths, stdout=subprocess.PIPE, text=True, check=False).stdout.split()
     room.expect("pkg-config", bool(flags), True)
     shown = dict(os.environ, LD_LIBRARY_PATH=os.path.join(prefix, "lib"))
-    for compiler in (["cc", "-std=c99"], ["c++", "-x", "c++"]):
+    for name, compiler in (("c", ["cc", "-std=c99"]), ("c++", ["c++", "-x", "c++"]), ("sanitized", ["cc", "-std=c99", *SANITIZERS])):
         out = room.path("roundtrip")
-        room.expect(f"{compiler[0]}: the example", ended(*compiler, *WARNINGS, "-o", out, EXAMPLE, *flags), (0, ""))
+        room.expect(f"{name}: the example", ended(*compiler, *WARNINGS, "-o", out, EXAMPLE, *flags), (0, ""))
         status, said = ended(out, env=shown)
-        room.expect(f"{compiler[0]}: the example runs", (status, said.endswith("restored\n")), (0, True))
+        room.expect(f"{name}: the example runs", (status, said.endswith("restored\n")), (0, True))
 
 
 def builds(room):
