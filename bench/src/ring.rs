@@ -1,5 +1,8 @@
 //! A ring of slots that transfers numbers from one thread to another without a lock. Each end keeps its own count and
 //! the last one that it read of the other's.
+//!
+//! Its steps acquire and release, where those of a proved lane are sequentially consistent, as all atomic steps of the toolchain
+//! are. So a lane is slower with single numbers; runs of eight and more share that cost, and with them it is level or ahead.
 
 use std::cell::UnsafeCell;
 use std::sync::atomic::{AtomicUsize, Ordering};

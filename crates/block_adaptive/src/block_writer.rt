@@ -32,7 +32,8 @@ pub struct BlockWriter {
     start: u64,
     /// The number of zero blocks from it on.
     zeros: u32,
-    /// The sum of the values of the next block so far.
+    /// The sum of the values of the next block so far. It shows that a block is zeros, what k = 0 costs and which three k may be
+    /// the shortest, so that one pass over the whole block decides its option.
     total: u32,
     values: [u16; 64],
     /// The number of values of the next block so far.

@@ -1,4 +1,7 @@
 //! What workers pass on for the next places.
+//!
+//! Residuals are waited for in the order in which they are coded; only the coding of up to 64 of them comes later. Where places
+//! go along rows, the next ones belong to one predictor, so they are taken from its lane in one call.
 
 ghost use Rattle.std.specs.Prelude.{◌≡◌, ℕ, ◌+◌, ◌<◌, ◌≤◌, ◌^◌, [], ◌∷◌, ◌++◌, length, All, IfOk, IfErr, IsTrue, take, vec_len, slice_index_or, slice_set};
 ghost use Rattle.cube_core.specs.Kind.{IsKind};

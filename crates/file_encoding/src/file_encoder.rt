@@ -120,7 +120,7 @@ impl FileEncoder {
         }
     }
 
-    /// Takes residuals by the block-adaptive coder, which needs no places.
+    /// Takes residuals by the block-adaptive coder, which needs no places: all of them are skipped at once.
     fn put_blocks(&mut self, residuals: &[u16]) -> Result<(), Fault>
         requires may { MayCodeAll self.old residuals.now }
         requires blocks { IsByBlocks self.old.coder }
@@ -175,6 +175,7 @@ impl FileEncoder {
     }
 
     /// Takes residuals by the sample-adaptive coder where places go along rows.
+    // What there is of a row is one call, which reserves room once and keeps the band's statistics at hand.
     fn put_rows(&mut self, residuals: &[u16]) -> Result<(), Fault>
         requires may { MayCodeAll self.old residuals.now }
         requires rows { AreByRows self.old.columns self.old.left }

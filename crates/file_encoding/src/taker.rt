@@ -17,6 +17,7 @@ pub trait Taker {
     ghost takes: { Self → Self → Bool → List ℕ → Type 0 };
 
     /// Takes some residuals, in order. Returns false if it has stopped.
+    // A slice at a time, not a residual: few calls, and long slices for the block-adaptive coder.
     fn take(&mut self, residuals: &[u16]) -> bool
         requires { may self.old residuals.now }
         ensures { takes self.old self.new result residuals.now };

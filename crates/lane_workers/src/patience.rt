@@ -44,7 +44,7 @@ impl Patience {
     pub fn wait<R: Wait>(&mut self, rt: &R) {
         match self.refused.checked_sub(self.looks) {
             None => hint::spin_loop(),
-            // Nobody unparks it, so it sleeps.
+            // Nobody unparks it, so it sleeps; `thread::sleep` would need a clock.
             Some(sleeps) => Parker::new().park_timeout(rt, nap(sleeps)),
         }
         self.refused = self.refused.saturating_add(1);

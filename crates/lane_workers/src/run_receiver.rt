@@ -65,6 +65,7 @@ impl RunReceiver {
     }
 
     /// Writes the next numbers to the front of a run that isn't empty, in order, and returns how many: 0 if it sees none.
+    // They are copied: a reference into the room would borrow the receiver while its worker may have to be joined.
     pub fn next_run(&mut self, run: &mut [u16]) -> usize
         requires { 0 < length run.old }
         ensures lane { self.new.lane ≡ self.old.lane }

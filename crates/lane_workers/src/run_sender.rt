@@ -13,6 +13,8 @@ use std::sync::Wait;
 
 /// A sender of runs: of eight numbers, or of as many as the lane has slots if these are fewer.
 ///
+/// Each step of a ring is sequentially consistent, and a run shares the cost of one among its numbers.
+///
 /// The gate is asked about each number of a run before the run is sent. If the lane is too full for the run, that counts as one
 /// failed try of each number, and the first is tried again alone. If the gate refuses a number, those before it are sent singly,
 /// the gate being asked again before each try, and the sender stops there.

@@ -119,6 +119,7 @@ pub(crate) fn invert_places<const Q: usize, const N: usize, const WRAPS: bool>(
             deltas[i],
         );
         cube.set(settings.band, y, column, sample);
+        // Handed on beside the cube: the next place waits for it, and not for a read of what was written.
         west = offset_of(&settings.range, sample);
     }
     (cube, weights)

@@ -46,7 +46,8 @@ impl Stats {
         if let Some(fault) = self.refused {
             return Err(fault);
         }
-        // A copy goes ahead: it stays in registers, and a refusal leaves what it was made of.
+        // A copy of the reader goes ahead: it stays in registers, and a refusal leaves what it was made of. The bands' states
+        // change in their place, as copies of all of them would take room; after a refusal nothing reads them.
         let mut ahead = reader.fork();
         match take_column(
             self.settings,
