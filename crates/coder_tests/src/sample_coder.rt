@@ -232,33 +232,25 @@ fn row_is_refused(rt: &impl Abort, alloc: Global, row: &str) {
 /// 144 in 8 bits, then eight zeros and 3 in 8 bits: a needless escape.
 const NEEDLESS_ESCAPE: [u8; 3] = [0x90, 0x00, 0x03];
 
-/// Returns the coder of one band and a reader after the first number, and asserts that `get_at` returned that.
-fn after_the_first<'a>(rt: &impl Abort, alloc: Global, bytes: &'a [u8; 3]) -> (Stats, BitReader<'a>)
-    ensures { 0 < length result.0.bands }
+/// Returns the fault of a band's second number, whose index in encoding order is given.
+fn second_fault(stats: &mut Stats, index: u64, reader: &mut BitReader) -> Option<Fault>
+    requires band { 0 < length stats.old.bands }
+    requires few { index < 100 }
+    ensures bands { length stats.new.bands ≡ length stats.old.bands }
 {
-    let mut stats = stats_of(rt, alloc, 1, short_codes(8));
-    let mut reader = BitReader::new(bytes);
-    same(rt, stats.get_at(0, 0, 40, &mut reader).ok(), Some(144));
-    (stats, reader)
+    stats.get_run(0, 1, index, reader, &mut [0]).err()
 }
 
 #[test]
 fn bad_code_names_the_index_that_is_asked_for(rt: HostRuntime) {
-    let (mut stats, mut reader) = after_the_first(&rt, rt.alloc(), &NEEDLESS_ESCAPE);
-    let fault = stats.get_at(0, 1, 41, &mut reader).err();
-    same_fault(
-        &rt,
-        fault,
-        Fault::BadCode { place: 41 },
-        "the number's index",
-    );
-    let fault = stats.get_at(0, 1, 42, &mut reader).err();
-    same_fault(
-        &rt,
-        fault,
-        Fault::BadCode { place: 42 },
-        "a later call's index",
-    );
+    let mut stats = stats_of(&rt, rt.alloc(), 1, short_codes(8));
+    let mut reader = BitReader::new(&NEEDLESS_ESCAPE);
+    same(&rt, stats.get(0, 0, &mut reader).ok(), Some(144));
+    let refusal = Fault::BadCode { place: 41 };
+    let first = second_fault(&mut stats, 41, &mut reader);
+    same_fault(&rt, first, refusal, "the number's index");
+    let later = second_fault(&mut stats, 42, &mut reader);
+    same_fault(&rt, later, refusal, "the first refusal, of a later call");
     same(&rt, reader.left(), 16);
 }
 

@@ -16,7 +16,7 @@ use Rattle.sample_adaptive.specs.Statistics.{CoderSettings}
 use Rattle.sample_adaptive.specs.Words.{code_at}
 use Rattle.sample_adaptive.specs.Body.{band_residuals, words_after, sample_body}
 use Rattle.sample_adaptive.specs.Reading.{word_at, words_at, sample_body_at}
-use Rattle.sample_adaptive.specs.Taken.{CoderState, HasTaken, AreEach, GetsAt, GetsEach, with_residual}
+use Rattle.sample_adaptive.specs.Taken.{CoderState, HasTaken, AreEach, GetsEach}
 use Rattle.sample_adaptive.specs.Given.{AreRead, HasGiven, IsNext, GivesMore, places_of}
 use Rattle.sample_adaptive.proofs.Bodies.{AreWords, words_again, words_takes, words_at_append}
 use Rattle.sample_adaptive.specs.Settings.{IsSample, settings}
@@ -117,23 +117,3 @@ each_given r zs ts index p old new residuals list bits unread left gets kept h a
     let each = are_each p (length residuals) (length list) zs ts next (length list) 0 residuals (omega arith) (omega arith) in
     gives_more (λ _. list) r p old new residuals bits unread left (length list) h kept (λ _. refl)
     (gets (settings p) _ _ residuals (words_given h.read).count each.1 each.0 h.taken at)
-
-pub next_given : (r : Result ℕ Fault) (z t index : ℕ) (p : Params) (old new : CoderState) (residuals : List ℕ) (bits : List Bool) (unread : Unread)
-    (left : List Bool) → GetsAt z t index r old unread new left → length new.bands ≡ length old.bands → HasGiven p old residuals bits
-    → index ≡ length residuals → IsNext p residuals z t → GivesMore (λ residual. residual ∷ []) r p residuals bits unread new left
-unfolding words_at
-next_given r z t index p old new residuals bits unread left gets kept h at next =
-    gives_more (λ residual. residual ∷ []) r p old new residuals bits unread left 1 h kept (λ _. refl)
-    (rw (next_first (places p.shape p.order) _ next.0 0 next.1) (one r ((rw at at gets) (settings p) _ h.taken next.3)))
-  where
-    gone : List Place
-    gone = places_of p residuals
-
-    one : (r : Result ℕ Fault)
-        → Reads (λ residual. residual) r left (word_at unread.count (length residuals) (code_at (settings p) z (band_residuals z gone residuals)) unread.left)
-        × IfOk r (λ residual. HasTaken (settings p) new (with_residual (λ z. band_residuals z gone residuals) z residual))
-        → Reads (λ residual. residual ∷ []) r left (words_at unread.count (settings p) gone residuals (next.0 ∷ []) unread.left)
-        × IfOk r (λ residual. HasTaken (settings p) new (λ z. band_residuals z (gone ++ next.0 ∷ []) (residuals ++ residual ∷ [])))
-    one (Ok residual) did =
-        (rw (next.2, did.0) refl, taken_along (settings p) new gone residuals next.0 residual (words_given h.read).count (rw next.2 did.1))
-    one (Err fault) did = (rw (next.2, did.0) refl, tt)

@@ -1,5 +1,5 @@
 -- Reading code words and bodies, with the first fault.
-use Rattle.std.specs.Prelude.{ℕ, ◌+◌, ◌*◌, ◌/◌, ◌^◌, nat_lt, Bool, if◌then◌else◌, List, [], ◌∷◌, ◌++◌, length, Ok, Err, Option, Some, None}
+use Rattle.std.specs.Prelude.{ℕ, ◌+◌, ◌*◌, ◌/◌, ◌^◌, nat_lt, Bool, if◌then◌else◌, List, [], ◌∷◌, ◌++◌, length, Ok, Err, Option}
 use Rattle.cube_core.specs.declared.fault.Fault.{Fault}
 use Rattle.cube_core.specs.declared.fault.Fault.TheVariants.{BadCode}
 use Rattle.cube_core.specs.declared.order.Place.{Place}
@@ -32,11 +32,6 @@ word_at count index c bits = do
 abbrev pub fault_at : ℕ → Fault → Fault
 fault_at index (BadCode other) = BadCode index
 fault_at index fault = fault
-
--- the stored fault, or this one if none is stored yet
-abbrev pub first_refusal : Option Fault → Fault → Fault
-first_refusal (Some first) fault = first
-first_refusal None fault = fault
 
 -- the residuals of places, each by the earlier residuals of its band; the places `gone` and their residuals `before` come first
 unfoldable pub words_at : ℕ → CoderSettings → List Place → List ℕ → List Place → Reading (List ℕ)

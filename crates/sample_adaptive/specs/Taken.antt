@@ -99,16 +99,12 @@ abbrev pub WritesColumn : ℕ → ℕ → List ℕ → CoderState → List Bool 
 WritesColumn z t residuals old written new written_now = Writes (λ i. z + i) (λ i. t) 0 residuals old written new written_now
 
 -- whatever was taken before, with t residuals of band z: the residual whose code word comes next is returned and taken, or the fault is that of the word,
--- with this index
-abbrev pub GetsAt : ℕ → ℕ → ℕ → Result ℕ Fault → CoderState → Unread → CoderState → List Bool → Type 0
-GetsAt z t index result old unread new left =
-    (c : CoderSettings) (taken : ℕ → List ℕ) → HasTaken c old taken → t ≡ length (taken z)
-    → Reads (λ residual. residual) result left (word_at unread.count index (code_at c z (taken z)) unread.left)
-    × IfOk result (λ residual. HasTaken c new (with_residual taken z residual))
-
--- the same, with the residual's raster index in its band as the index of a fault
+-- with the index t
 abbrev pub GetsResidual : ℕ → ℕ → Result ℕ Fault → CoderState → Unread → CoderState → List Bool → Type 0
-GetsResidual z t result old unread new left = GetsAt z t t result old unread new left
+GetsResidual z t result old unread new left =
+    (c : CoderSettings) (taken : ℕ → List ℕ) → HasTaken c old taken → t ≡ length (taken z)
+    → Reads (λ residual. residual) result left (word_at unread.count t (code_at c z (taken z)) unread.left)
+    × IfOk result (λ residual. HasTaken c new (with_residual taken z residual))
 
 -- places of bands zs i, zs (i + 1), ..: before each, its band has ts i, ts (i + 1), .. residuals, whatever the residuals at the places between are
 abbrev pub AreEach : (ℕ → ℕ) → (ℕ → ℕ) → ℕ → List Place → List ℕ → List Place → Type 0
