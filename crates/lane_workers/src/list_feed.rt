@@ -39,8 +39,10 @@ fn send_list<R: Wait, G: Gate>(
     ensures { Keeps (G.may_stop gate.now) predictor numbers.now sender.lane result }
 {
     let mut sender = RunSender::new(predictor, sender, gate);
-    for number in numbers {
-        if !sender.send(rt, *number) {
+    let mut first = 0;
+    while first < numbers.len() {
+        first += sender.send_some(rt, &numbers[first..]);
+        if !sender.goes_on() {
             return sender.end(rt);
         }
     }

@@ -1,4 +1,4 @@
-//! Senders that take numbers one by one, and send them in runs past a gate.
+//! Senders that take numbers, and send them in runs past a gate.
 
 ghost use Rattle.std.specs.Prelude.{◌≡◌, ◌+◌, ◌-◌, ◌^◌, ◌<◌, ◌≤◌, [], ◌∷◌, ◌++◌, true, false, length, take, drop, slice_index, IsTrue, IsFalse};
 ghost use Rattle.lane_workers.specs.Feeds.{Keeps};
@@ -67,20 +67,6 @@ impl<'g, G: Gate> RunSender<'g, G> {
             stopped: false,
             patience: Patience::new(),
         }
-    }
-
-    /// Takes a number, and sends it with those before it once they make a run; it waits while the lane is full. Returns false if
-    /// the gate has stopped the sender, which then hasn't sent all that it took. The gate hasn't stopped it before.
-    pub fn send<R: Wait>(&mut self, rt: &R, number: u16) -> bool
-        requires ready { IsTrue self.old.ready }
-        requires few { length self.old.taken < 2 ^ 64 - 1 }
-        ensures same { (self.new.lane ≡ self.old.lane) × (self.new.predictor ≡ self.old.predictor) × (self.new.gate ≡ self.old.gate) }
-        ensures taken { self.new.taken ≡ self.old.taken ++ number ∷ [] }
-        ensures ready { IsTrue result → IsTrue self.new.ready }
-        ensures stopped { IsFalse result → IsTrue self.new.stopped }
-    {
-        let _one = self.send_some(rt, &[number]);
-        self.goes_on()
     }
 
     /// Takes the first of some numbers, as many as a run lacks, and sends the run once it is whole; it waits while the lane is
