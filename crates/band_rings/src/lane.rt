@@ -5,11 +5,13 @@ ghost use Rattle.cube_core.specs.Shape.{InRange};
 ghost use Rattle.cube_core.specs.declared.fault.Fault.TheVariants.{FieldRange, WantOfMemory};
 ghost use Rattle.cube_core.specs.declared.fault.Field.TheVariants.{Slots};
 
+use crate::bell::Bells;
 use crate::receiver::LaneReceiver;
 use crate::sender::LaneSender;
 use cube_core::fault::{Fault, Field};
 use rtrb::RingBuffer;
 use std::alloc::Global;
+use std::sync::Arc;
 
 /// The greatest number of slots of a lane.
 const MOST_SLOTS: u32 = 65_536;
@@ -34,5 +36,10 @@ pub fn lane(alloc: Global, slots: u32) -> Result<(LaneSender, LaneReceiver), Fau
         });
     }
     let (producer, consumer) = RingBuffer::new(alloc, slots as usize)?;
-    Ok((LaneSender::new(producer), LaneReceiver::new(consumer)))
+    let bells = Arc::new(alloc, Bells::new())?;
+    let same = Arc::try_clone(&bells)?;
+    Ok((
+        LaneSender::new(producer, bells),
+        LaneReceiver::new(consumer, same),
+    ))
 }

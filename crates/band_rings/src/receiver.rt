@@ -5,8 +5,10 @@ ghost use mathlib.Core.List.{IsPrefix};
 ghost use Rattle.rtrb.specs.Ring.{received, known_items};
 ghost use Rattle.band_rings.specs.Ends.{name_of_consumer};
 
+use crate::bell::{Bell, Bells};
 use rtrb::Consumer;
 use std::marker::Model;
+use std::sync::Arc;
 
 /// The end that receives.
 ///
@@ -14,6 +16,7 @@ use std::marker::Model;
 #[derive(Drop)]
 pub struct LaneReceiver {
     pub(crate) consumer: Consumer<u16>,
+    pub(crate) bells: Arc<Bells>,
 }
 
 impl Model for LaneReceiver {
@@ -28,10 +31,21 @@ impl Model for LaneReceiver {
 
 impl LaneReceiver {
     /// The receiving end of a ring.
-    pub(crate) fn new(consumer: Consumer<u16>) -> LaneReceiver
+    pub(crate) fn new(consumer: Consumer<u16>, bells: Arc<Bells>) -> LaneReceiver
         ensures { (result.lane ≡ name_of_consumer consumer) × (result.received ≡ received consumer) × (result.known ≡ known_items consumer) }
     {
-        LaneReceiver { consumer }
+        LaneReceiver { consumer, bells }
+    }
+
+    /// Returns the bell by which this end sleeps, until the sending end wakes it.
+    pub fn bell(&self) -> &Bell {
+        &self.bells.receiver
+    }
+
+    /// Wakes the sending end if it listens.
+    #[inline(always)]
+    pub fn wake_sender(&self) {
+        self.bells.sender.wake();
     }
 
     /// Receives and returns the next number, or returns `None` if it sees none. A number that is known to be

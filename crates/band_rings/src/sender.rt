@@ -5,9 +5,11 @@ ghost use Rattle.cube_core.specs.Shape.{InRange};
 ghost use Rattle.rtrb.specs.Ring.{sent, known_free, producer_capacity};
 ghost use Rattle.band_rings.specs.Ends.{name_of_producer};
 
+use crate::bell::{Bell, Bells};
 use crate::closed::ClosedLane;
 use rtrb::{Producer, PushError};
 use std::marker::Model;
+use std::sync::Arc;
 
 /// The end that sends.
 ///
@@ -16,6 +18,7 @@ use std::marker::Model;
 pub struct LaneSender {
     producer: Producer<u16>,
     count: u64,
+    bells: Arc<Bells>,
 }
 
 impl Model for LaneSender {
@@ -39,13 +42,28 @@ impl Model for LaneSender {
 
 impl LaneSender {
     /// The sending end of a new ring.
-    pub(crate) fn new(producer: Producer<u16>) -> LaneSender
+    pub(crate) fn new(producer: Producer<u16>, bells: Arc<Bells>) -> LaneSender
         requires fresh { sent producer ≡ [] }
         requires range { InRange 1 65536 (producer_capacity producer) }
         ensures { (result.lane ≡ name_of_producer producer) × (result.sent ≡ []) × (result.free ≡ known_free producer)
             × (result.slots ≡ producer_capacity producer) }
     {
-        LaneSender { producer, count: 0 }
+        LaneSender {
+            producer,
+            count: 0,
+            bells,
+        }
+    }
+
+    /// Returns the bell by which this end sleeps, until the receiving end wakes it.
+    pub fn bell(&self) -> &Bell {
+        &self.bells.sender
+    }
+
+    /// Wakes the receiving end if it listens.
+    #[inline(always)]
+    pub fn wake_receiver(&self) {
+        self.bells.receiver.wake();
     }
 
     /// Returns the number of slots of the lane.
@@ -114,7 +132,11 @@ impl LaneSender {
     pub fn close(self) -> ClosedLane
         ensures { (result.lane ≡ self.lane) × (result.sent ≡ self.sent) }
     {
-        let LaneSender { producer, count } = self;
+        let LaneSender {
+            producer,
+            count,
+            bells: _,
+        } = self;
         ClosedLane::new(producer, count)
     }
 }

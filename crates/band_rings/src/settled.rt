@@ -39,7 +39,10 @@ pub fn settle(receiver: LaneReceiver, closed: ClosedLane) -> SettledLane
     ensures kept { (result.sent ≡ closed.sent) × (result.received ≡ receiver.received) }
     ensures lane { IsLane result }
 {
-    let LaneReceiver { mut consumer } = receiver;
+    let LaneReceiver {
+        mut consumer,
+        bells: _,
+    } = receiver;
     let ClosedLane {
         mut producer,
         count,

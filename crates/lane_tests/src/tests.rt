@@ -1,5 +1,6 @@
 //! Tests of lanes, feeds and workers.
 
+mod bells;
 mod checks;
 mod feeds;
 mod gates;

@@ -1,25 +1,26 @@
 //! Waiting between tries that are refused.
 
+use band_rings::bell::Bell;
 use std::hint;
 use std::sync::Wait;
-use std::thread::Parker;
 use std::time::Duration;
 
 /// How many looks come before the first sleep: the most, and the fewest.
 const MOST_LOOKS: u32 = 1024;
 
-const FEWEST_LOOKS: u32 = 64;
+const FEWEST_LOOKS: u32 = 16;
 
-/// The first sleep of a wait, in microseconds, and how many times the next ones double.
-const SHORTEST: u64 = 25;
+/// The first sleep of a wait, in microseconds, and how many times the next ones double. The other end mostly ends a
+/// sleep sooner.
+const SHORTEST: u64 = 200;
 
 const DOUBLINGS: u32 = 3;
 
 /// Waits for what a thread at the other end of a lane does.
 ///
 /// While that thread runs, it is soon done, so a wait first looks again and again. If it has no processor, that would only keep
-/// one from it, so a wait then sleeps, each time twice as long as before, up to a bound. It doesn't yield the processor: where
-/// others want it, a yield costs as much as a sleep of milliseconds.
+/// one from it, so a wait then sleeps until the other end wakes it, at first for a short time at most and then for up to eight times as
+/// long. It doesn't yield the processor: where others want it, a yield costs as much as a sleep of milliseconds.
 ///
 /// A wait that had to sleep halves how often the next one looks, and one that didn't doubles it again.
 #[derive(Drop)]
@@ -39,13 +40,19 @@ impl Patience {
         }
     }
 
-    /// Pauses after a try that was refused.
-    #[inline(never)]
+    /// Pauses after a try that was refused, where no bell tells when to try again.
     pub fn wait<R: Wait>(&mut self, rt: &R) {
+        self.wait_for(rt, &Bell::new());
+    }
+
+    /// Pauses after a try that was refused. It ends a sleep where the other end wakes who listens to the bell.
+    #[inline(never)]
+    pub fn wait_for<R: Wait>(&mut self, rt: &R, bell: &Bell) {
         match self.refused.checked_sub(self.looks) {
             None => hint::spin_loop(),
-            // Nobody unparks it, so it sleeps; `thread::sleep` would need a clock.
-            Some(sleeps) => Parker::new().park_timeout(rt, nap(sleeps)),
+            // A try comes between this and the sleep, so that no call of `wake` is missed.
+            Some(0) => bell.listen(),
+            Some(sleeps) => bell.sleep(rt, longest(sleeps - 1)),
         }
         self.refused = self.refused.saturating_add(1);
     }
@@ -61,7 +68,7 @@ impl Patience {
     }
 }
 
-/// Returns how long to sleep after so many sleeps.
-fn nap(sleeps: u32) -> Duration {
+/// Returns how long to sleep at most, after so many sleeps.
+fn longest(sleeps: u32) -> Duration {
     Duration::from_micros(SHORTEST << sleeps.min(DOUBLINGS))
 }

@@ -6,8 +6,9 @@ ghost use mathlib.Core.List.{IsPrefix};
 use band_rings::receiver::LaneReceiver;
 use std::marker::Model;
 
-/// How many numbers a room holds.
-const PLACES: usize = 64;
+/// How many numbers a room holds: what fits in a lane of the usual size. So the lane is empty once they are in the room, and its
+/// sender seldom has to wait.
+const PLACES: usize = 1024;
 
 /// A small buffer beside a receiver. Contracts see the numbers that wait in it, in order.
 #[derive(Drop)]
@@ -25,7 +26,7 @@ impl Model for Room {
 
     ghost view = { λ r. take (r.end - r.first) (drop r.first r.numbers) };
 
-    ghost invariant = { λ r. (r.first ≤ r.end) × (r.end ≤ 64) };
+    ghost invariant = { λ r. (r.first ≤ r.end) × (r.end ≤ 1024) };
 }
 
 impl Room {

@@ -5,6 +5,7 @@ ghost use mathlib.Core.List.{IsPrefix};
 ghost use Rattle.band_rings.specs.Lane.{IsLane};
 
 use crate::room::Room;
+use band_rings::bell::Bell;
 use band_rings::closed::ClosedLane;
 use band_rings::receiver::LaneReceiver;
 use band_rings::settled::{SettledLane, settle};
@@ -79,6 +80,7 @@ impl RunReceiver {
             return count;
         }
         self.room.fill(&mut self.receiver);
+        self.receiver.wake_sender();
         self.room.next_run(run)
     }
 
@@ -92,13 +94,19 @@ impl RunReceiver {
         self.room.next()
     }
 
-    /// Drops what waits in the room, and fills it with what it sees in the lane, up to 64 numbers. Returns whether it saw any.
+    /// Drops what waits in the room, and fills it with what it sees in the lane, up to 1,024 numbers. Returns whether it saw any.
     pub fn skip(&mut self) -> bool
         ensures lane { self.new.lane ≡ self.old.lane }
         ensures none { IsFalse result → self.new.known ≡ [] }
     {
         self.room.fill(&mut self.receiver);
+        self.receiver.wake_sender();
         !self.room.is_empty()
+    }
+
+    /// Returns the bell by which it sleeps, until the sender wakes it.
+    pub fn bell(&self) -> &Bell {
+        self.receiver.bell()
     }
 
     /// Brings the two ends of one lane together. What is in the room counts as part of the rest.

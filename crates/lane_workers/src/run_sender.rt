@@ -11,6 +11,9 @@ use band_rings::sender::LaneSender;
 use std::marker::Model;
 use std::sync::Wait;
 
+/// After how many numbers the receiver is woken.
+const STRETCH: u64 = 512;
+
 /// A sender of runs: of eight numbers, or of as many as the lane has slots if these are fewer.
 ///
 /// Each step of a ring is sequentially consistent, and a run shares the cost of one among its numbers.
@@ -129,6 +132,7 @@ impl<'g, G: Gate> RunSender<'g, G> {
                 gate,
                 &mut patience,
             );
+        sender.wake_receiver();
         LaneEnd {
             closed: sender.close(),
             whole,
@@ -187,10 +191,19 @@ fn send_run<R: Wait, G: Gate>(
     }
     if sender.send_run(waiting.numbers()) {
         waiting.clear();
+        wake_now_and_then(sender);
         return true;
     }
     waiting.come_back();
     send_first(rt, predictor, sender, waiting, gate, patience)
+}
+
+/// Wakes the receiver, if it listens, after each stretch of numbers. Sooner it would find little to do.
+#[inline(always)]
+fn wake_now_and_then(sender: &LaneSender) {
+    if sender.sent_count() % STRETCH < MOST as u64 {
+        sender.wake_receiver();
+    }
 }
 
 /// Returns how many of the waiting numbers the gate passes, asking it for each until it refuses one.
@@ -235,7 +248,8 @@ fn send_first<R: Wait, G: Gate>(
             return true;
         }
         waiting.first_comes_back();
-        patience.wait(rt);
+        sender.wake_receiver();
+        patience.wait_for(rt, sender.bell());
     }
     unreachable!()
 }

@@ -90,7 +90,7 @@ impl<F: Feed, G: Gate> Stage<F, G> {
         self.state.next_one(rt, over, &mut self.patience)
     }
 
-    /// Drops the numbers that wait to be passed on, and receives up to 64 that it sees in their place, so that the worker finds
+    /// Drops the numbers that wait to be passed on, and receives up to 1,024 that it sees in their place, so that the worker finds
     /// free slots. Returns whether it saw any. It does nothing once the worker is joined. What then counts as passed on isn't
     /// stated.
     pub fn skip(&mut self) -> bool

@@ -61,9 +61,16 @@ impl<F: Feed, G: Gate> State<F, G> {
                 replace_with(self, rt, join);
                 return self.seen_run(run);
             }
-            patience.wait(rt);
+            self.wait(rt, patience);
         }
         unreachable!()
+    }
+
+    /// Pauses until a running worker may have sent more.
+    fn wait<R: Wait>(&self, rt: &R, patience: &mut Patience) {
+        if let State::Running(worker) = self {
+            patience.wait_for(rt, worker.receiver.bell());
+        }
     }
 
     /// Passes on the next number that waits in the room of a running worker, or returns `None` if none waits or the worker was
@@ -103,7 +110,7 @@ impl<F: Feed, G: Gate> State<F, G> {
         Some(run[0])
     }
 
-    /// Drops the numbers that wait to be passed on by a running worker, and receives up to 64 that it sees in their place.
+    /// Drops the numbers that wait to be passed on by a running worker, and receives up to 1,024 that it sees in their place.
     /// Returns whether it saw any.
     pub(crate) fn skip(&mut self) -> bool
         ensures { ((standing_of self.new).feed ≡ (standing_of self.old).feed) × ((standing_of self.new).gate ≡ (standing_of self.old).gate) }
