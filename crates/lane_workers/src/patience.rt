@@ -1,5 +1,7 @@
 //! Waiting between tries that are refused.
 
+ghost use Rattle.std.specs.Prelude.{◌≤◌};
+
 use band_rings::bell::Bell;
 use std::hint;
 use std::sync::Wait;
@@ -29,6 +31,7 @@ pub struct Patience {
     looks: u32,
     /// How many tries were refused since the last one that succeeded; it stays at the longest sleep.
     refused: u32,
+    ghost bounds: { (16 ≤ looks) × (looks ≤ 1024) },
 }
 
 impl Patience {

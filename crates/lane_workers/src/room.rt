@@ -77,6 +77,7 @@ impl Room {
 
     /// Fills the room again with what it sees in a lane. Numbers that waited are dropped.
     pub(crate) fn fill(&mut self, receiver: &mut LaneReceiver)
+        ensures few { length self.old ≤ 1024 }
         ensures lane { receiver.new.lane ≡ receiver.old.lane }
         ensures received { receiver.new.received ≡ receiver.old.received ++ self.new }
         ensures seen { IsPrefix receiver.old.known (self.new ++ receiver.new.known) }

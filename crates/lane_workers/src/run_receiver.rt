@@ -1,6 +1,6 @@
 //! Receivers that take numbers from their lane in runs, and pass them on in runs.
 
-ghost use Rattle.std.specs.Prelude.{◌≡◌, ◌<◌, ◌≤◌, [], ◌∷◌, ◌++◌, length, take, IfSome, IfNone, IsFalse};
+ghost use Rattle.std.specs.Prelude.{◌≡◌, ◌<◌, ◌≤◌, ℕ, List, [], ◌∷◌, ◌++◌, length, take, IfSome, IfNone, IsFalse};
 ghost use mathlib.Core.List.{IsPrefix};
 ghost use Rattle.band_rings.specs.Lane.{IsLane};
 
@@ -94,9 +94,12 @@ impl RunReceiver {
         self.room.next()
     }
 
-    /// Drops what waits in the room, and fills it with what it sees in the lane, up to 1,024 numbers. Returns whether it saw any.
+    /// Skips what waits in the room, at most 1,024 numbers, and fills the room with what it sees in the lane. Returns whether it saw
+    /// any.
     pub fn skip(&mut self) -> bool
         ensures lane { self.new.lane ≡ self.old.lane }
+        ensures skipped { (skipped : List ℕ) × (length skipped ≤ 1024) × (self.new.received ≡ self.old.received ++ skipped)
+            × IsPrefix self.old.known (skipped ++ self.new.known) }
         ensures none { IsFalse result → self.new.known ≡ [] }
     {
         self.room.fill(&mut self.receiver);
