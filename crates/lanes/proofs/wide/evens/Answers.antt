@@ -1,0 +1,10 @@
+use Rattle.std.proofs.Common.{◌*◌, ◌≡◌, refl, arith, w32, ◌∷◌, [], get_or}
+use Rattle.lanes.proofs.Ranges.{vector}
+use Rattle.lanes.proofs.Steps.{eight, picked}
+use Rattle.lanes.proofs.wide.evens.Goals as goal
+
+pub returns : goal.returns
+returns c k within =
+    let a = vector w32 16 c.args.a _ c.well_formed.0 in
+    let at = eight (λ j. get_or (0 ∷ 2 ∷ 4 ∷ 6 ∷ 8 ∷ 10 ∷ 12 ∷ 14 ∷ []) j 0 ≡ 2 * j) refl refl refl refl refl refl refl refl k within in
+    picked w32 c.args.a c.args.a (0 ∷ 2 ∷ 4 ∷ 6 ∷ 8 ∷ 10 ∷ 12 ∷ 14 ∷ []) k (2 * k) a.1 within at (omega arith)

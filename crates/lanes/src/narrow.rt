@@ -1,0 +1,79 @@
+//! Steps of eight or sixteen numbers of 16 bits.
+
+ghost use Rattle.std.specs.Prelude.{◌≡◌, ◌<◌, ◌+◌, ◌*◌, ◌^◌, ℕ, pos, negsuc, ◌+ℤ◌, ◌-ℤ◌, ◌*ℤ◌, unsigned_abs, int_lt, if◌then◌else◌};
+ghost use Rattle.std.specs.Int.{int_min, int_max};
+ghost use Rattle.lanes.specs.Lanes.{lane, held, halved};
+
+use crate::widths::{differences, hold};
+use std::simd::prelude::*;
+
+/// Returns `yes` in each lane where `a` is greater than `b`, and `no` in the others.
+#[inline(always)]
+pub fn where_greater(a: i16x8, b: i16x8, yes: i16, no: i16) -> i16x8
+    ensures { (k : ℕ) → k < 8 → lane result k ≡ (if int_lt (lane b k) (lane a k) then yes else no) }
+{
+    a.simd_gt(b).select(i16x8::splat(yes), i16x8::splat(no))
+}
+
+/// Puts the lanes of two vectors side by side: lane k of `first` becomes lane 2k, and that of `second` lane 2k + 1.
+#[inline(always)]
+pub fn paired(first: i16x8, second: i16x8) -> i16x16
+    ensures even { (k : ℕ) → k < 8 → lane result (2 * k) ≡ lane first k }
+    ensures odd { (k : ℕ) → k < 8 → lane result (2 * k + 1) ≡ lane second k }
+{
+    first.shuffle(
+        second,
+        [0, 8, 1, 9, 2, 10, 3, 11, 4, 12, 5, 13, 6, 14, 7, 15],
+    )
+}
+
+/// Returns each number with all bits flipped where the mask has all ones, and as it is where the mask is 0.
+#[inline(always)]
+pub fn flipped(a: i16x16, mask: i16x16) -> i16x16
+    ensures kept { (k : ℕ) → k < 16 → lane mask k ≡ pos 0 → lane result k ≡ lane a k }
+    ensures turned { (k : ℕ) → k < 16 → lane mask k ≡ negsuc 0 → lane result k ≡ negsuc 0 -ℤ lane a k }
+{
+    a ^ mask
+}
+
+/// Returns the sums, in lanes where they fit.
+#[inline(always)]
+pub fn sum(a: i16x16, b: i16x16) -> i16x16
+    ensures { (k : ℕ) → k < 16 → unsigned_abs (lane a k +ℤ lane b k) < 2 ^ 15 → lane result k ≡ lane a k +ℤ lane b k }
+{
+    a + b
+}
+
+/// Returns the products, in lanes where they fit.
+#[inline(always)]
+pub fn product(a: i16x16, b: i16x16) -> i16x16
+    ensures { (k : ℕ) → k < 16 → unsigned_abs (lane a k *ℤ lane b k) < 2 ^ 15 → lane result k ≡ lane a k *ℤ lane b k }
+{
+    a * b
+}
+
+/// Returns the numbers divided by 2^by and rounded down.
+#[inline(always)]
+pub fn shifted(a: i16x16, by: u32) -> i16x16
+    requires { by < 16 }
+    ensures { (k : ℕ) → k < 16 → lane result k ≡ halved (lane a k) by }
+{
+    a >> by as i16
+}
+
+/// Returns the differences, each held in 16 bits.
+#[inline(always)]
+pub fn held_difference(a: i16x16, b: i16x16) -> i16x16
+    ensures { (k : ℕ) → k < 16 → lane result k ≡ held (lane a k -ℤ lane b k) }
+{
+    hold(differences(a, b))
+}
+
+/// Returns the numbers, each held between two limits.
+#[inline(always)]
+pub fn within(a: i16x16, least: i16, most: i16) -> i16x16
+    ensures { (k : ℕ) → k < 16 → lane result k ≡ int_max least (int_min (lane a k) most) }
+{
+    a.simd_min(i16x16::splat(most))
+        .simd_max(i16x16::splat(least))
+}
