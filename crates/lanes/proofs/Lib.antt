@@ -1,3 +1,4 @@
 pub mod Numbers
 pub mod Ranges
 pub mod Steps
+pub mod Turning

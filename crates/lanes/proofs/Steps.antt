@@ -175,3 +175,16 @@ eight P a b c d e f g h (suc (suc (suc (suc (suc zero))))) l = f
 eight P a b c d e f g h (suc (suc (suc (suc (suc (suc zero)))))) l = g
 eight P a b c d e f g h (suc (suc (suc (suc (suc (suc (suc zero))))))) l = h
 eight P a b c d e f g h (suc (suc (suc (suc (suc (suc (suc (suc k)))))))) l = absurd (omega arith)
+
+-- the lanes of two vectors, by their places in both
+pub at_first : (w : Width) (a b : List ℤ) (n i : ℕ) → length a ≡ n → ((k : ℕ) → SFits w (lane a k)) → i < n → to_z w (get_or (map (of_z w) a ++ map (of_z w) b) i 0) ≡ lane a i
+at_first w a b n i l fits h = ap (to_z w) (picked_of_first w a (map (of_z w) b) i (omega arith)) ∙ to_z-of_z w (lane a i) (fits i)
+
+pub at_second : (w : Width) (a b : List ℤ) (n i j : ℕ) → length a ≡ n → length b ≡ n → ((k : ℕ) → SFits w (lane b k)) → i < n → j ≡ n + i
+    → to_z w (get_or (map (of_z w) a ++ map (of_z w) b) j 0) ≡ lane b i
+at_second w a b n i j l m fits h e =
+    ap (to_z w) (picked_of_second w a (map (of_z w) b) j i (omega arith) ∙ bits_of w b i (omega arith)) ∙ to_z-of_z w (lane b i) (fits i)
+
+pub same : (w : Width) (v : List ℤ) → ((k : ℕ) → SFits w (lane v k)) → map (to_z w) (map (of_z w) v) ≡ v
+same w [] f = refl
+same w (x ∷ v) f = ap₂ (λ y ys. y ∷ ys) (to_z-of_z w x (f 0)) (same w v (λ k. f (suc k)))

@@ -4,5 +4,6 @@
 #![tactic(auto)]
 
 pub mod narrow;
+pub mod turn;
 pub mod wide;
 mod widths;
