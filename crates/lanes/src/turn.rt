@@ -100,22 +100,24 @@ fn put_rows(square: Square, at: usize, rows: &mut [[i16; 8]; 64])
     ensures before { (i b : ℕ) → i < at → place rows.new i b ≡ place rows.old i b }
     ensures written { (j b : ℕ) → j < 8 → place rows.new (at + j) b ≡ place (rows_of square) j b }
 {
-    rows[at] = row(square.a);
-    rows[at + 1] = row(square.b);
-    rows[at + 2] = row(square.c);
-    rows[at + 3] = row(square.d);
-    rows[at + 4] = row(square.e);
-    rows[at + 5] = row(square.f);
-    rows[at + 6] = row(square.g);
-    rows[at + 7] = row(square.h);
+    put_row(square.a, &mut rows[at]);
+    put_row(square.b, &mut rows[at + 1]);
+    put_row(square.c, &mut rows[at + 2]);
+    put_row(square.d, &mut rows[at + 3]);
+    put_row(square.e, &mut rows[at + 4]);
+    put_row(square.f, &mut rows[at + 5]);
+    put_row(square.g, &mut rows[at + 6]);
+    put_row(square.h, &mut rows[at + 7]);
 }
 
-/// Returns the row of these numbers.
+/// Writes eight numbers into a row.
+///
+/// By `copy_to_slice`, which is one store: clang takes eight arrays side by side apart and puts them together again.
 #[inline(always)]
-fn row(numbers: i16x8) -> [i16; 8]
-    ensures { result ≡ numbers }
+fn put_row(numbers: i16x8, row: &mut [i16; 8])
+    ensures { row.new ≡ numbers }
 {
-    numbers.to_array()
+    numbers.copy_to_slice(row);
 }
 
 /// Writes eight numbers into each line, from place `at` on.
@@ -125,19 +127,19 @@ fn put_lines(square: Square, at: usize, lines: &mut [[i16; 64]; 8])
     ensures before { (b i : ℕ) → b < 8 → i < at → place lines.new b i ≡ place lines.old b i }
     ensures written { (b j : ℕ) → b < 8 → j < 8 → place lines.new b (at + j) ≡ place (rows_of square) b j }
 {
-    put(square.a, at, &mut lines[0]);
-    put(square.b, at, &mut lines[1]);
-    put(square.c, at, &mut lines[2]);
-    put(square.d, at, &mut lines[3]);
-    put(square.e, at, &mut lines[4]);
-    put(square.f, at, &mut lines[5]);
-    put(square.g, at, &mut lines[6]);
-    put(square.h, at, &mut lines[7]);
+    put_part(square.a, at, &mut lines[0]);
+    put_part(square.b, at, &mut lines[1]);
+    put_part(square.c, at, &mut lines[2]);
+    put_part(square.d, at, &mut lines[3]);
+    put_part(square.e, at, &mut lines[4]);
+    put_part(square.f, at, &mut lines[5]);
+    put_part(square.g, at, &mut lines[6]);
+    put_part(square.h, at, &mut lines[7]);
 }
 
 /// Writes eight numbers into a line, from place `at` on.
 #[inline(always)]
-fn put(numbers: i16x8, at: usize, line: &mut [i16; 64])
+fn put_part(numbers: i16x8, at: usize, line: &mut [i16; 64])
     requires { at + 8 ≤ 64 }
     ensures before { (i : ℕ) → i < at → lane line.new i ≡ lane line.old i }
     ensures written { (j : ℕ) → j < 8 → lane line.new (at + j) ≡ lane numbers j }

@@ -11,12 +11,12 @@ returns-clause-written c b j b-in j-in =
     let s = c.args.square in let o = c.well_formed.0.1.1 in
     ap (λ l. place l b (c.args.at + j)) (set_all c.args.lines.now _ _ _ _ _ _ _ _ c.told-lines)
     ∙ each_row (λ b. place (rows_of s) b j) (c.args.at + j) _ _ _ _ _ _ _ _
-    (c.put.ensures.written j j-in ∙ kept w16 s.a j (vector w16 8 s.a _ o.0).1)
-    (c.put-2.ensures.written j j-in ∙ kept w16 s.b j (vector w16 8 s.b _ o.1.0).1)
-    (c.put-3.ensures.written j j-in ∙ kept w16 s.c j (vector w16 8 s.c _ o.1.1.0).1)
-    (c.put-4.ensures.written j j-in ∙ kept w16 s.d j (vector w16 8 s.d _ o.1.1.1.0).1)
-    (c.put-5.ensures.written j j-in ∙ kept w16 s.e j (vector w16 8 s.e _ o.1.1.1.1.0).1)
-    (c.put-6.ensures.written j j-in ∙ kept w16 s.f j (vector w16 8 s.f _ o.1.1.1.1.1.0).1)
-    (c.put-7.ensures.written j j-in ∙ kept w16 s.g j (vector w16 8 s.g _ o.1.1.1.1.1.1.0).1)
-    (c.put-8.ensures.written j j-in ∙ kept w16 s.h j (vector w16 8 s.h _ o.1.1.1.1.1.1.1.0).1)
+    (c.put_part.ensures.written j j-in ∙ kept w16 s.a j (vector w16 8 s.a _ o.0).1)
+    (c.put_part-2.ensures.written j j-in ∙ kept w16 s.b j (vector w16 8 s.b _ o.1.0).1)
+    (c.put_part-3.ensures.written j j-in ∙ kept w16 s.c j (vector w16 8 s.c _ o.1.1.0).1)
+    (c.put_part-4.ensures.written j j-in ∙ kept w16 s.d j (vector w16 8 s.d _ o.1.1.1.0).1)
+    (c.put_part-5.ensures.written j j-in ∙ kept w16 s.e j (vector w16 8 s.e _ o.1.1.1.1.0).1)
+    (c.put_part-6.ensures.written j j-in ∙ kept w16 s.f j (vector w16 8 s.f _ o.1.1.1.1.1.0).1)
+    (c.put_part-7.ensures.written j j-in ∙ kept w16 s.g j (vector w16 8 s.g _ o.1.1.1.1.1.1.0).1)
+    (c.put_part-8.ensures.written j j-in ∙ kept w16 s.h j (vector w16 8 s.h _ o.1.1.1.1.1.1.1.0).1)
     b b-in

@@ -5,7 +5,7 @@ use Rattle.lanes.proofs.Ranges.{vector}
 use Rattle.lanes.proofs.Steps.{kept}
 use Rattle.lanes.proofs.Turning.{put_in_rest}
 use Rattle.lanes.specs.Lanes.{lane}
-use Rattle.lanes.proofs.turn.put.Goals as goal
+use Rattle.lanes.proofs.turn.put_part.Goals as goal
 
 pub returns-clause-before : goal.returns-clause-before
 returns-clause-before c i h =
