@@ -14,10 +14,10 @@ abbrev pub last_halves : List ℤ → List ℤ → List ℤ
 last_halves a b = lane a 4 ∷ lane b 4 ∷ lane a 5 ∷ lane b 5 ∷ lane a 6 ∷ lane b 6 ∷ lane a 7 ∷ lane b 7 ∷ []
 
 abbrev row : List (List ℤ) → ℕ → List ℤ
-row rows i = slice_index_or rows i []
+row square i = slice_index_or square i []
 
 -- the first four rows woven with the last four
 abbrev pub woven : List (List ℤ) → List (List ℤ)
-woven rows =
-    first_halves (row rows 0) (row rows 4) ∷ last_halves (row rows 0) (row rows 4) ∷ first_halves (row rows 1) (row rows 5) ∷ last_halves (row rows 1) (row rows 5)
-    ∷ first_halves (row rows 2) (row rows 6) ∷ last_halves (row rows 2) (row rows 6) ∷ first_halves (row rows 3) (row rows 7) ∷ last_halves (row rows 3) (row rows 7) ∷ []
+woven square =
+    first_halves (row square 0) (row square 4) ∷ last_halves (row square 0) (row square 4) ∷ first_halves (row square 1) (row square 5) ∷ last_halves (row square 1) (row square 5)
+    ∷ first_halves (row square 2) (row square 6) ∷ last_halves (row square 2) (row square 6) ∷ first_halves (row square 3) (row square 7) ∷ last_halves (row square 3) (row square 7) ∷ []
