@@ -141,28 +141,34 @@ between w v most least n k fits l h =
 
 -- ---- lanes by their places in two vectors
 
-pub picked_of_first : (w : Width) (a : List ℤ) (ys : List ℕ) (i : ℕ) → i < length a → get_or (map (of_z w) a ++ ys) i 0 ≡ of_z w (lane a i)
+picked_of_first : (w : Width) (a : List ℤ) (ys : List ℕ) (i : ℕ) → i < length a → get_or (map (of_z w) a ++ ys) i 0 ≡ of_z w (lane a i)
 picked_of_first w [] ys i h = absurd (omega arith)
 picked_of_first w (x ∷ a) ys zero h = refl
 picked_of_first w (x ∷ a) ys (suc i) h = picked_of_first w a ys i (omega arith)
 
-pub picked_of_second : (w : Width) (a : List ℤ) (ys : List ℕ) (i j : ℕ) → i ≡ length a + j → get_or (map (of_z w) a ++ ys) i 0 ≡ get_or ys j 0
+picked_of_second : (w : Width) (a : List ℤ) (ys : List ℕ) (i j : ℕ) → i ≡ length a + j → get_or (map (of_z w) a ++ ys) i 0 ≡ get_or ys j 0
 picked_of_second w [] ys i j h = ap (λ l. get_or ys l 0) (omega arith)
 picked_of_second w (x ∷ a) ys zero j h = absurd (omega arith)
 picked_of_second w (x ∷ a) ys (suc i) j h = picked_of_second w a ys i j (omega arith)
 
-pub picked : (w : Width) (a b : List ℤ) (places : List ℕ) (k i : ℕ) → ((k : ℕ) → SFits w (lane a k)) → k < length places → get_or places k 0 ≡ i → i < length a
-    → lane (map (λ j. to_z w (get_or (map (of_z w) a ++ map (of_z w) b) j 0)) places) k ≡ lane a i
-picked w a b places k i fits within e h =
-    get_or-map (λ j. to_z w (get_or (map (of_z w) a ++ map (of_z w) b) j 0)) places k 0 (pos 0) within
-    ∙ ap (λ j. to_z w (get_or (map (of_z w) a ++ map (of_z w) b) j 0)) e
-    ∙ ap (to_z w) (picked_of_first w a (map (of_z w) b) i h) ∙ to_z-of_z w (lane a i) (fits i)
+pub at_first : (w : Width) (a b : List ℤ) (n i : ℕ) → length a ≡ n → ((k : ℕ) → SFits w (lane a k)) → i < n → to_z w (get_or (map (of_z w) a ++ map (of_z w) b) i 0) ≡ lane a i
+at_first w a b n i l fits h = ap (to_z w) (picked_of_first w a (map (of_z w) b) i (omega arith)) ∙ to_z-of_z w (lane a i) (fits i)
 
-pub picked_beyond : (w : Width) (a b : List ℤ) (places : List ℕ) (k i : ℕ) → ((k : ℕ) → SFits w (lane b k)) → k < length places → get_or places k 0 ≡ length a + i
-    → i < length b → lane (map (λ j. to_z w (get_or (map (of_z w) a ++ map (of_z w) b) j 0)) places) k ≡ lane b i
-picked_beyond w a b places k i fits within e h =
+pub at_second : (w : Width) (a b : List ℤ) (n i j : ℕ) → length a ≡ n → length b ≡ n → ((k : ℕ) → SFits w (lane b k)) → i < n → j ≡ n + i
+    → to_z w (get_or (map (of_z w) a ++ map (of_z w) b) j 0) ≡ lane b i
+at_second w a b n i j l m fits h e =
+    ap (to_z w) (picked_of_second w a (map (of_z w) b) j i (omega arith) ∙ bits_of w b i (omega arith)) ∙ to_z-of_z w (lane b i) (fits i)
+
+pub picked : (w : Width) (a b : List ℤ) (places : List ℕ) (n k i : ℕ) → length a ≡ n → ((k : ℕ) → SFits w (lane a k)) → k < length places → get_or places k 0 ≡ i → i < n
+    → lane (map (λ j. to_z w (get_or (map (of_z w) a ++ map (of_z w) b) j 0)) places) k ≡ lane a i
+picked w a b places n k i l fits within e h =
     get_or-map (λ j. to_z w (get_or (map (of_z w) a ++ map (of_z w) b) j 0)) places k 0 (pos 0) within
-    ∙ ap (to_z w) (picked_of_second w a (map (of_z w) b) (get_or places k 0) i e ∙ bits_of w b i h) ∙ to_z-of_z w (lane b i) (fits i)
+    ∙ ap (λ j. to_z w (get_or (map (of_z w) a ++ map (of_z w) b) j 0)) e ∙ at_first w a b n i l fits h
+
+pub picked_beyond : (w : Width) (a b : List ℤ) (places : List ℕ) (n k i : ℕ) → length a ≡ n → length b ≡ n → ((k : ℕ) → SFits w (lane b k)) → k < length places
+    → get_or places k 0 ≡ n + i → i < n → lane (map (λ j. to_z w (get_or (map (of_z w) a ++ map (of_z w) b) j 0)) places) k ≡ lane b i
+picked_beyond w a b places n k i l m fits within e h =
+    get_or-map (λ j. to_z w (get_or (map (of_z w) a ++ map (of_z w) b) j 0)) places k 0 (pos 0) within ∙ at_second w a b n i (get_or places k 0) l m fits h e
 
 -- what holds of each of eight
 pub eight : (P : ℕ → Type 0) → P 0 → P 1 → P 2 → P 3 → P 4 → P 5 → P 6 → P 7 → (k : ℕ) → k < 8 → P k
@@ -175,15 +181,6 @@ eight P a b c d e f g h (suc (suc (suc (suc (suc zero))))) l = f
 eight P a b c d e f g h (suc (suc (suc (suc (suc (suc zero)))))) l = g
 eight P a b c d e f g h (suc (suc (suc (suc (suc (suc (suc zero))))))) l = h
 eight P a b c d e f g h (suc (suc (suc (suc (suc (suc (suc (suc k)))))))) l = absurd (omega arith)
-
--- the lanes of two vectors, by their places in both
-pub at_first : (w : Width) (a b : List ℤ) (n i : ℕ) → length a ≡ n → ((k : ℕ) → SFits w (lane a k)) → i < n → to_z w (get_or (map (of_z w) a ++ map (of_z w) b) i 0) ≡ lane a i
-at_first w a b n i l fits h = ap (to_z w) (picked_of_first w a (map (of_z w) b) i (omega arith)) ∙ to_z-of_z w (lane a i) (fits i)
-
-pub at_second : (w : Width) (a b : List ℤ) (n i j : ℕ) → length a ≡ n → length b ≡ n → ((k : ℕ) → SFits w (lane b k)) → i < n → j ≡ n + i
-    → to_z w (get_or (map (of_z w) a ++ map (of_z w) b) j 0) ≡ lane b i
-at_second w a b n i j l m fits h e =
-    ap (to_z w) (picked_of_second w a (map (of_z w) b) j i (omega arith) ∙ bits_of w b i (omega arith)) ∙ to_z-of_z w (lane b i) (fits i)
 
 pub same : (w : Width) (v : List ℤ) → ((k : ℕ) → SFits w (lane v k)) → map (to_z w) (map (of_z w) v) ≡ v
 same w [] f = refl

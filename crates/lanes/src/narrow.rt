@@ -27,7 +27,7 @@ pub fn paired(first: i16x8, second: i16x8) -> i16x16
     )
 }
 
-/// Returns each number with all bits flipped where the mask has all ones, and as it is where the mask is 0.
+/// Returns each number as it is where the mask is 0, and with all bits flipped, which makes -1 - a of a, where the mask is -1.
 #[inline(always)]
 pub fn flipped(a: i16x16, mask: i16x16) -> i16x16
     ensures kept { (k : ℕ) → k < 16 → lane mask k ≡ pos 0 → lane result k ≡ lane a k }
@@ -36,7 +36,7 @@ pub fn flipped(a: i16x16, mask: i16x16) -> i16x16
     a ^ mask
 }
 
-/// Returns the sums, in lanes where they fit.
+/// Returns the sum of each two lanes, exact wherever it fits in 16 bits.
 #[inline(always)]
 pub fn sum(a: i16x16, b: i16x16) -> i16x16
     ensures { (k : ℕ) → k < 16 → unsigned_abs (lane a k +ℤ lane b k) < 2 ^ 15 → lane result k ≡ lane a k +ℤ lane b k }
@@ -44,7 +44,7 @@ pub fn sum(a: i16x16, b: i16x16) -> i16x16
     a + b
 }
 
-/// Returns the products, in lanes where they fit.
+/// Returns the product of each two lanes, exact wherever it fits in 16 bits.
 #[inline(always)]
 pub fn product(a: i16x16, b: i16x16) -> i16x16
     ensures { (k : ℕ) → k < 16 → unsigned_abs (lane a k *ℤ lane b k) < 2 ^ 15 → lane result k ≡ lane a k *ℤ lane b k }
@@ -52,7 +52,7 @@ pub fn product(a: i16x16, b: i16x16) -> i16x16
     a * b
 }
 
-/// Returns the numbers divided by 2^by and rounded down.
+/// Returns each number divided by 2^by and rounded down; `by` is 0 to 15.
 #[inline(always)]
 pub fn shifted(a: i16x16, by: u32) -> i16x16
     requires { by < 16 }
@@ -61,7 +61,7 @@ pub fn shifted(a: i16x16, by: u32) -> i16x16
     a >> by as i16
 }
 
-/// Returns the differences, each held in 16 bits.
+/// Returns the difference of each two lanes, or the nearest number of 16 bits where it lies beyond them.
 #[inline(always)]
 pub fn held_difference(a: i16x16, b: i16x16) -> i16x16
     ensures { (k : ℕ) → k < 16 → lane result k ≡ held (lane a k -ℤ lane b k) }
@@ -69,7 +69,7 @@ pub fn held_difference(a: i16x16, b: i16x16) -> i16x16
     hold(differences(a, b))
 }
 
-/// Returns the numbers, each held between two limits.
+/// Returns each number, or the limit that it lies beyond; where `least` is above `most`, `least` in every lane.
 #[inline(always)]
 pub fn within(a: i16x16, least: i16, most: i16) -> i16x16
     ensures { (k : ℕ) → k < 16 → lane result k ≡ int_max least (int_min (lane a k) most) }

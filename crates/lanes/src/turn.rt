@@ -112,7 +112,7 @@ fn put_rows(square: Square, at: usize, rows: &mut [[i16; 8]; 64])
 
 /// Writes eight numbers into a row.
 ///
-/// By `copy_to_slice`, which is one store: clang takes eight arrays side by side apart and puts them together again.
+/// By `copy_to_slice`, which stays one store. Of eight arrays that are stored side by side clang makes many small pieces.
 #[inline(always)]
 fn put_row(numbers: i16x8, row: &mut [i16; 8])
     ensures { row.new ≡ numbers }
@@ -148,6 +148,8 @@ fn put_part(numbers: i16x8, at: usize, line: &mut [i16; 64])
 }
 
 /// Turns rows and columns of a square into one another.
+///
+/// The numbers of a row and a column have three bits each. Weaving rotates all six by one, so three times exchanges the two.
 #[inline(always)]
 fn turned(square: Square) -> Square
     ensures { (i b : ℕ) → i < 8 → b < 8 → place (rows_of result) i b ≡ place (rows_of square) b i }

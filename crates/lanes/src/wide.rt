@@ -7,7 +7,7 @@ ghost use Rattle.lanes.specs.Lanes.{lane, held, pair_sum, halved};
 use crate::widths::{hold, products};
 use std::simd::prelude::*;
 
-/// Returns the sums of two neighbouring products: lane k of it is that of lanes 2k and 2k + 1, where it fits.
+/// Returns sums of two neighbouring products: in lane k that of lanes 2k and 2k + 1, exact wherever it fits in 32 bits.
 #[inline(always)]
 pub fn pair_sums(a: i16x16, b: i16x16) -> i32x8
     ensures { (k : ℕ) → k < 8 → unsigned_abs (pair_sum a b k) < 2 ^ 31 → lane result k ≡ pair_sum a b k }
@@ -32,7 +32,7 @@ fn odds(a: i32x16) -> i32x8
     a.swizzle([1, 3, 5, 7, 9, 11, 13, 15])
 }
 
-/// Returns the sums, in lanes where they fit.
+/// Returns the sum of each two lanes, exact wherever it fits in 32 bits.
 #[inline(always)]
 pub fn sum(a: i32x8, b: i32x8) -> i32x8
     ensures { (k : ℕ) → k < 8 → unsigned_abs (lane a k +ℤ lane b k) < 2 ^ 31 → lane result k ≡ lane a k +ℤ lane b k }
@@ -40,7 +40,7 @@ pub fn sum(a: i32x8, b: i32x8) -> i32x8
     a + b
 }
 
-/// Returns the numbers divided by 2^by and rounded down.
+/// Returns each number divided by 2^by and rounded down; `by` is 0 to 31.
 #[inline(always)]
 pub fn shifted(a: i32x8, by: u32) -> i32x8
     requires { by < 32 }
@@ -49,7 +49,7 @@ pub fn shifted(a: i32x8, by: u32) -> i32x8
     a >> by as i32
 }
 
-/// Returns the lowest `by` bits of each number: what is left over where it is divided by 2^by.
+/// Returns the lowest `by` bits of each number, which are what division by 2^by leaves over; `by` is 0 to 30.
 #[inline(always)]
 pub fn masked(a: i32x8, by: u32) -> i32x8
     requires { by < 31 }
@@ -58,7 +58,7 @@ pub fn masked(a: i32x8, by: u32) -> i32x8
     a & i32x8::splat((1 << by) - 1)
 }
 
-/// Returns the numbers, each held in 16 bits.
+/// Returns each number, or the nearest number of 16 bits where it lies beyond them.
 #[inline(always)]
 pub fn held(a: i32x8) -> i16x8
     ensures { (k : ℕ) → k < 8 → lane result k ≡ held (lane a k) }

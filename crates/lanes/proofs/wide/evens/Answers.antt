@@ -7,4 +7,4 @@ pub returns : goal.returns
 returns c k within =
     let a = vector w32 16 c.args.a _ c.well_formed.0 in
     let at = eight (λ j. get_or (0 ∷ 2 ∷ 4 ∷ 6 ∷ 8 ∷ 10 ∷ 12 ∷ 14 ∷ []) j 0 ≡ 2 * j) refl refl refl refl refl refl refl refl k within in
-    picked w32 c.args.a c.args.a (0 ∷ 2 ∷ 4 ∷ 6 ∷ 8 ∷ 10 ∷ 12 ∷ 14 ∷ []) k (2 * k) a.1 within at (omega arith)
+    picked w32 c.args.a c.args.a (0 ∷ 2 ∷ 4 ∷ 6 ∷ 8 ∷ 10 ∷ 12 ∷ 14 ∷ []) 16 k (2 * k) a.0 a.1 within at (omega arith)

@@ -7,4 +7,4 @@ pub returns : goal.returns
 returns c k within =
     let a = vector w32 16 c.args.a _ c.well_formed.0 in
     let at = eight (λ j. get_or (1 ∷ 3 ∷ 5 ∷ 7 ∷ 9 ∷ 11 ∷ 13 ∷ 15 ∷ []) j 0 ≡ 2 * j + 1) refl refl refl refl refl refl refl refl k within in
-    picked w32 c.args.a c.args.a (1 ∷ 3 ∷ 5 ∷ 7 ∷ 9 ∷ 11 ∷ 13 ∷ 15 ∷ []) k (2 * k + 1) a.1 within at (omega arith)
+    picked w32 c.args.a c.args.a (1 ∷ 3 ∷ 5 ∷ 7 ∷ 9 ∷ 11 ∷ 13 ∷ 15 ∷ []) 16 k (2 * k + 1) a.0 a.1 within at (omega arith)
