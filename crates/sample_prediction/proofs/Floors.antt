@@ -11,7 +11,7 @@ use Rattle.header_bits.proofs.Tests.{le_true, true_le}
 use Rattle.sample_prediction.specs.Arithmetic.{floor_div, clip, wrapped}
 use Rattle.std.specs.Int.{int_rem_euclid}
 
-times_sum : (n : ℕ) (a b : ℤ) → pos n *ℤ (a +ℤ b) ≡ pos n *ℤ a +ℤ pos n *ℤ b
+pub times_sum : (n : ℕ) (a b : ℤ) → pos n *ℤ (a +ℤ b) ≡ pos n *ℤ a +ℤ pos n *ℤ b
 times_sum n a b = let e = ap (λ k. n * k) (sum_is_lem a b) in omega (arith, ints, e)
 
 times_difference : (n : ℕ) (a b : ℤ) → pos n *ℤ (a -ℤ b) ≡ pos n *ℤ a -ℤ pos n *ℤ b

@@ -9,7 +9,7 @@ use Rattle.sample_prediction.specs.Prediction.{inner_product}
 use Rattle.sample_prediction.proofs.Padding.{padded_product, padded_update}
 use Rattle.sample_prediction.proofs.Products.{same_heads}
 
-product_more : (ws us : List ℤ) (w u : ℤ) → length ws ≡ length us → inner_product (ws ++ w ∷ []) (us ++ u ∷ []) ≡ inner_product ws us +ℤ w *ℤ u
+pub product_more : (ws us : List ℤ) (w u : ℤ) → length ws ≡ length us → inner_product (ws ++ w ∷ []) (us ++ u ∷ []) ≡ inner_product ws us +ℤ w *ℤ u
 unfolding inner_product
 product_more [] [] w u e = omega (arith, ints)
 product_more [] (y ∷ us) w u e = absurd (omega (arith, e))
@@ -19,7 +19,7 @@ product_more (x ∷ ws) (y ∷ us) w u e = rw (product_more ws us w u (omega (ar
     joined : (a b c : ℤ) → a +ℤ (b +ℤ c) ≡ (a +ℤ b) +ℤ c
     joined a b c = omega (arith, ints)
 
-update_more : (f : ℕ) (e : ℤ) (n : Bool) (ws us : List ℤ) (w u : ℤ) → length ws ≡ length us
+pub update_more : (f : ℕ) (e : ℤ) (n : Bool) (ws us : List ℤ) (w u : ℤ) → length ws ≡ length us
     → updated_weights f e n (ws ++ w ∷ []) (us ++ u ∷ []) ≡ updated_weights f e n ws us ++ updated_weight f e n w u ∷ []
 unfolding updated_weights
 update_more f e n [] [] w u h = refl

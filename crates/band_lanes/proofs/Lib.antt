@@ -1,0 +1,4 @@
+pub mod Floors
+pub mod Rows
+pub mod Sums
+pub mod Updates
