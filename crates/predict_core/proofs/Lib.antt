@@ -1,5 +1,12 @@
 pub mod Chains
 pub mod Following
+pub mod GroupFilled
+pub mod GroupLanes
+pub mod GroupLines
+pub mod GroupPieces
+pub mod GroupRuns
+pub mod GroupVectors
+pub mod GroupNumbers
 pub mod Earlier
 pub mod Frame
 pub mod Inverting

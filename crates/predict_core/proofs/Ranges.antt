@@ -38,6 +38,10 @@ pub apart : (low high a s : ℤ) (power : ℕ) → high -ℤ low ≡ pos power -
     → unsigned_abs (pos 4 *ℤ a -ℤ s) ≤ 4 * power
 apart low high a s power e h k = omega (arith, ints, e, h.0, h.1, k.0, k.1)
 
+apart_below : (low high a s : ℤ) (power : ℕ) → high -ℤ low ≡ pos power -ℤ pos 1 → Between low high a → Between (pos 4 *ℤ low) (pos 4 *ℤ high) s
+    → unsigned_abs (pos 4 *ℤ a -ℤ s) ≤ 4 * power - 1
+apart_below low high a s power e h k = omega (arith, ints, e, h.0, h.1, k.0, k.1)
+
 pub sample_within : (c : Image) → IsCube c → (z y x : ℕ) → IsPlace c.shape z y x → IsSample c.kind (sample_at c z y x)
 unfolding sample_at
 sample_within c cube z y x q =
@@ -77,39 +81,51 @@ module _ (p : Predictor) (c : Image) (cube : IsCube c) (y x : ℕ) (later : 0 < 
           ]
         ]
 
-    difference_within : (sample : ℤ) → IsSample c.kind sample → unsigned_abs (difference_from p c z y x sample) ≤ 4 * 2 ^ c.kind.bits
-    difference_within sample h = apart (smin c.kind) (smax c.kind) sample (local_sum p c z y x) (2 ^ c.kind.bits) (span c.kind cube.bits) h sum_within
+    difference_below : (sample : ℤ) → IsSample c.kind sample → unsigned_abs (difference_from p c z y x sample) ≤ 4 * 2 ^ c.kind.bits - 1
+    difference_below sample h = apart_below (smin c.kind) (smax c.kind) sample (local_sum p c z y x) (2 ^ c.kind.bits) (span c.kind cube.bits) h sum_within
+
+    pub central_below : unsigned_abs (central_difference p c z y x) ≤ 4 * 2 ^ c.kind.bits - 1
+    unfolding central_difference
+    central_below = difference_below (sample_at c z y x) (sample_within c cube z y x place)
 
     pub central_within : unsigned_abs (central_difference p c z y x) ≤ 4 * 2 ^ c.kind.bits
-    unfolding central_difference
-    central_within = difference_within (sample_at c z y x) (sample_within c cube z y x place)
+    central_within = let h = central_below in omega (arith, h)
 
-    pub directional_within : AllWithin (4 * 2 ^ c.kind.bits) (directional_differences p c z y x)
-    directional_within =
+    pub directional_below : AllWithin (4 * 2 ^ c.kind.bits - 1) (directional_differences p c z y x)
+    directional_below =
         elim (cases_eq y 0) [
-          | inl e ↦ rw (directional_first p c z y x e) (within_three (4 * 2 ^ c.kind.bits) (pos 0) (pos 0) (pos 0) (omega arith) (omega arith) (omega arith))
+          | inl e ↦ rw (directional_first p c z y x e) (within_three (4 * 2 ^ c.kind.bits - 1) (pos 0) (pos 0) (pos 0) (omega arith) (omega arith) (omega arith))
           | inr n ↦ elim (cases_eq x 0) [
-            | inl h ↦ (let d = difference_within _ (up x column) in rw (directional_left p c z y x n h) (within_three (4 * 2 ^ c.kind.bits) _ _ _ d d d))
-            | inr h ↦ rw (directional_inside p c z y x n h) (within_three (4 * 2 ^ c.kind.bits) _ _ _ (difference_within _ (up x column))
-                (difference_within _ left) (difference_within _ (up (x - 1) before)))
+            | inl h ↦ (let d = difference_below _ (up x column) in rw (directional_left p c z y x n h) (within_three (4 * 2 ^ c.kind.bits - 1) _ _ _ d d d))
+            | inr h ↦ rw (directional_inside p c z y x n h) (within_three (4 * 2 ^ c.kind.bits - 1) _ _ _ (difference_below _ (up x column))
+                (difference_below _ left) (difference_below _ (up (x - 1) before)))
           ]
         ]
 
+    pub directional_within : AllWithin (4 * 2 ^ c.kind.bits) (directional_differences p c z y x)
+    directional_within i l = let h = directional_below i l in omega (arith, h)
+
   module _ (z : ℕ) (place : IsPlace c.shape z y x) where
-    pub spectral_within : (n : ℕ) → n ≤ z → AllWithin (4 * 2 ^ c.kind.bits) (spectral_differences p c z y x n)
+    pub spectral_below : (n : ℕ) → n ≤ z → AllWithin (4 * 2 ^ c.kind.bits - 1) (spectral_differences p c z y x n)
     unfolding spectral_differences
-    spectral_within zero h = within_none (4 * 2 ^ c.kind.bits)
-    spectral_within (suc n) h =
-        within_append (4 * 2 ^ c.kind.bits) (spectral_differences p c z y x n) (central_difference p c (z - suc n) y x ∷ []) (spectral_within n (omega arith))
-        (within_one (4 * 2 ^ c.kind.bits) _
-        (central_within (z - suc n) (record { band = (let b = place.band in omega arith); row = place.row; column = place.column })))
+    spectral_below zero h = within_none (4 * 2 ^ c.kind.bits - 1)
+    spectral_below (suc n) h =
+        within_append (4 * 2 ^ c.kind.bits - 1) (spectral_differences p c z y x n) (central_difference p c (z - suc n) y x ∷ []) (spectral_below n (omega arith))
+        (within_one (4 * 2 ^ c.kind.bits - 1) _
+        (central_below (z - suc n) (record { band = (let b = place.band in omega arith); row = place.row; column = place.column })))
+
+    pub vector_below : AllWithin (4 * 2 ^ c.kind.bits - 1) (difference_vector p c z y x)
+    vector_below =
+        let s = spectral_below (previous_bands p z) (omega arith) in elim (cases_Bool p.reduced) [
+          | inl e ↦ subst (AllWithin (4 * 2 ^ c.kind.bits - 1)) (sym (reduced_vector_is p c z y x e)) s
+          | inr e ↦ subst (AllWithin (4 * 2 ^ c.kind.bits - 1)) (sym (full_vector_is p c z y x e)) (within_append _ _ _ (directional_below z place) s)
+        ]
+
+    pub spectral_within : (n : ℕ) → n ≤ z → AllWithin (4 * 2 ^ c.kind.bits) (spectral_differences p c z y x n)
+    spectral_within n m i l = let h = spectral_below n m i l in omega (arith, h)
 
     pub vector_within : AllWithin (4 * 2 ^ c.kind.bits) (difference_vector p c z y x)
-    vector_within =
-        let s = spectral_within (previous_bands p z) (omega arith) in elim (cases_Bool p.reduced) [
-          | inl e ↦ subst (AllWithin (4 * 2 ^ c.kind.bits)) (sym (reduced_vector_is p c z y x e)) s
-          | inr e ↦ subst (AllWithin (4 * 2 ^ c.kind.bits)) (sym (full_vector_is p c z y x e)) (within_append _ _ _ (directional_within z place) s)
-        ]
+    vector_within i l = let h = vector_below i l in omega (arith, h)
 
     pub padded_within : (m : ℕ) → AllWithin (4 * 2 ^ c.kind.bits) (difference_vector p c z y x ++ replicate m (pos 0))
     padded_within m =

@@ -1,5 +1,9 @@
 pub mod Cubes
 pub mod Following
+pub mod GroupLanes
+pub mod GroupLines
+pub mod GroupPieces
+pub mod GroupRooms
 pub mod OpenPart
 pub mod Largest
 pub mod PredictorStates

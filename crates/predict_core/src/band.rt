@@ -157,7 +157,7 @@ impl Band {
 
 /// Returns the index of the first spectral weight: in full mode the weights of the three directions come before
 /// it.
-fn first_spectral(reduced: bool) -> usize
+pub(crate) fn first_spectral(reduced: bool) -> usize
     ensures value { result ≡ (if reduced then 0 else 3) }
     ensures bound { result ≤ 3 }
 {

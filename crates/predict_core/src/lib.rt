@@ -6,6 +6,7 @@ pub mod bands;
 mod below;
 mod chain;
 mod fills;
+pub mod group;
 mod inverse_chain;
 mod known_run;
 pub mod laws;

@@ -1,0 +1,44 @@
+-- A band in a lane of the vectors: what its lane holds of a piece.
+use Rattle.std.specs.Prelude.{ℕ, ◌≡◌, ◌+◌, ◌-◌, ◌*◌, ◌^◌, ◌<◌, ◌≤◌, ℤ, pos, ◌+ℤ◌, ◌≤ℤ◌, List, [], ◌++◌, length, take, replicate, slice_index_or}
+use Rattle.cube_core.specs.Image.{Image, IsCube, IsPlace}
+use Rattle.lanes.specs.Lanes.{lane}
+use Rattle.band_lanes.specs.declared.pairs.Pairs.{Pairs}
+use Rattle.band_lanes.specs.Rows.{weights_of, components_of}
+use Rattle.predict_core.specs.declared.settings.Settings.{Settings}
+use Rattle.predict_core.specs.Following.{PredictorState}
+use Rattle.sample_prediction.specs.Bounds.{AllWithin}
+use Rattle.sample_prediction.specs.Predictor.{component_count}
+use Rattle.sample_prediction.specs.declared.predictor.Predictor.{Predictor}
+use Rattle.sample_prediction.specs.Differences.{central_difference, difference_vector}
+
+-- lane b holds d and U of a band for each of the `count` places from row y, column x on, except at t = 0, U in the first q pairs with zeros after it;
+-- 16 bits are enough for them, and a register of so many bits never wraps
+pub record IsLane (q b : ℕ) (s : Settings) (c : Image) (y x count : ℕ) (own : List (List ℤ)) (pairs : List Pairs) : Type 0 where
+  pub cube : IsCube c
+  pub place : IsPlace c.shape s.band y x
+  pub columns : c.shape.columns ≡ s.columns
+  pub kind : c.kind ≡ s.range.kind
+  pub inside : x + count ≤ c.shape.columns
+  pub few : q ≤ 9
+  pub enough : s.count ≤ 2 * q
+  pub register : 46 ≤ s.predictor.register
+  pub omega_in : s.predictor.omega ≤ 13
+  pub bits : c.kind.bits ≤ 12
+  pub central : (i : ℕ) → i < count → 0 < y + (x + i) → lane (slice_index_or own i []) b ≡ central_difference s.predictor c s.band y (x + i)
+  pub vector : (i : ℕ) → i < count → 0 < y + (x + i)
+      → components_of q b pairs i ≡ difference_vector s.predictor c s.band y (x + i) ++ replicate (2 * q - s.count) (pos 0)
+
+-- lanes of 16 bits are exact for a predictor of samples of so many bits: for the weights, for the components, and for components times or over a step's
+-- power of two; and the register never wraps
+pub record IsNarrow (p : Predictor) (bits : ℕ) : Type 0 where
+  pub register : 46 ≤ p.register
+  pub omega_in : p.omega ≤ 13
+  pub bits_in : bits ≤ 12
+  pub least : pos p.omega ≤ℤ (p.vmin +ℤ pos 14)
+  pub most : (p.vmax +ℤ pos bits) ≤ℤ (pos p.omega +ℤ pos 13)
+
+-- lane b of the first q rows of pairs holds a band's weights, one for each of its components, all in their range
+pub record HasWeights (q b : ℕ) (s : PredictorState) (rows : List (List ℤ)) : Type 0 where
+  pub long : length s.weights ≡ component_count s.predictor s.band
+  pub used : length s.weights ≤ 2 * q → take (length s.weights) (weights_of q b rows) ≡ s.weights
+  pub within : AllWithin (2 ^ (s.predictor.omega + 2)) (weights_of q b rows)

@@ -1,0 +1,129 @@
+//! Advancing some bands by the same piece of a row, whose mapped residuals each of them holds.
+
+ghost use Rattle.std.specs.Prelude.{◌≡◌, ◌+◌, ◌*◌, ◌≤◌, ℕ, true, false, length};
+ghost use Rattle.std.specs.List.{AllZip};
+ghost use Rattle.sample_prediction.specs.Predictor.{component_count};
+ghost use Rattle.predict_core.specs.Following.{HoldsPiece};
+ghost use Rattle.predict_core.specs.GroupLanes.{IsNarrow};
+ghost use Rattle.predict_core.specs.GroupPieces.{ArePiecesNext};
+ghost use Rattle.predict_core.specs.GroupRooms.{AreReady};
+
+use crate::band::{Band, first_spectral};
+use crate::group::room::GroupRoom;
+use crate::group::side_by_side::predict_side_by_side;
+use crate::settings::Settings;
+use cube_core::cube::Cube;
+
+/// The least numbers of bands and of places that are worth the work of going side by side.
+const LEAST_BANDS: usize = 4;
+
+const LEAST_PLACES: usize = 16;
+
+/// Advances each of some bands by `count` places of a row; each holds their mapped residuals until its next piece.
+///
+/// The bands are 1 to 8, all with the same parameters, and `count` is at most 64. The first of these places is the next one
+/// of each band, row `y`, column `x`, and all of them are in that row. The cube has the shape and kind of the parameters.
+/// For each band this does what `predict_piece` does (CCSDS 123.0-B-1, "Predictor"). Where lanes of 16 bits are exact for
+/// the parameters, the bands go side by side, and else two at a time.
+pub fn predict_group(
+    bands: &mut [Band],
+    cube: &Cube,
+    y: u32,
+    x: u32,
+    count: usize,
+    room: &mut GroupRoom,
+)
+    requires few { (1 ≤ length bands.old) × (length bands.old ≤ 8) }
+    requires next { ArePiecesNext bands.old cube.now y x count }
+    ensures held { AllZip (HoldsPiece cube.now count) bands.old bands.new }
+{
+    if bands.len() >= LEAST_BANDS && count >= LEAST_PLACES {
+        let (narrow, pairs) = lanes_of(&bands[0]);
+        if narrow && predict_by(bands, cube, y, x, count, pairs, room) {
+            return;
+        }
+    }
+    predict_in_pairs(bands, cube, y, x, count);
+}
+
+/// Advances the bands two at a time.
+fn predict_in_pairs(bands: &mut [Band], cube: &Cube, y: u32, x: u32, count: usize)
+    requires few { (1 ≤ length bands.old) × (length bands.old ≤ 8) }
+    requires next { ArePiecesNext bands.old cube.now y x count }
+    ensures held { AllZip (HoldsPiece cube.now count) bands.old bands.new }
+{
+    let pairs = bands.len() / 2;
+    for k in 0..pairs {
+        let (before, rest) = bands.split_at_mut(2 * k + 1);
+        let band = &mut before[2 * k];
+        let other = &mut rest[0];
+        band.predict_pieces(other, cube, y, x, count);
+    }
+    if 2 * pairs < bands.len() {
+        let band = &mut bands[2 * pairs];
+        band.predict_piece(cube, y, x, count);
+    }
+}
+
+/// Returns whether lanes of 16 bits are exact for a band's parameters, and how many pairs hold the components.
+fn lanes_of(band: &Band) -> (bool, usize)
+    ensures narrow { result.0 ≡ true → IsNarrow band.now.predictor band.now.kind.bits }
+    ensures wide { band.now.predictor.column ≡ false → 2 ≤ band.now.shape.columns }
+    ensures few { result.1 ≤ 9 }
+    ensures enough { (z : ℕ) → component_count band.now.predictor z ≤ 2 * result.1 }
+{
+    (is_narrow(&band.settings), pairs_of(&band.settings))
+}
+
+/// Returns whether lanes of 16 bits are exact for some parameters.
+fn is_narrow(settings: &Settings) -> bool
+    ensures { result ≡ true → IsNarrow settings.now.predictor settings.now.range.bits }
+{
+    let predictor = &settings.predictor;
+    let (omega, bits) = (predictor.omega as i32, settings.range.bits as i32);
+    predictor.register >= 46
+        && omega <= 13
+        && bits <= 12
+        && omega <= predictor.vmin + 14
+        && predictor.vmax + bits <= omega + 13
+}
+
+/// Returns how many pairs hold the components of any band.
+fn pairs_of(settings: &Settings) -> usize
+    ensures few { result ≤ 9 }
+    ensures enough { (z : ℕ) → component_count settings.now.predictor z ≤ 2 * result }
+{
+    let most = first_spectral(settings.predictor.reduced) + settings.predictor.previous as usize;
+    (most + 1) / 2
+}
+
+/// Advances the bands side by side, by the form for a number of pairs, and returns whether 16 bits hold their weights. If not, no
+/// band is advanced.
+#[tactic(auto, using(crate::proofs::GroupFilled::ready_more))]
+fn predict_by(
+    bands: &mut [Band],
+    cube: &Cube,
+    y: u32,
+    x: u32,
+    count: usize,
+    pairs: usize,
+    room: &mut GroupRoom,
+) -> bool
+    requires pairs { pairs ≤ 9 }
+    requires few { (1 ≤ length bands.old) × (length bands.old ≤ 8) }
+    requires ready { AreReady pairs bands.old cube.now y x count }
+    ensures held { result ≡ true → AllZip (HoldsPiece cube.now count) bands.old bands.new }
+    ensures kept { result ≡ false → bands.new ≡ bands.old }
+{
+    match pairs {
+        0 | 1 => predict_side_by_side::<1>(bands, cube, y, x, count, room),
+        2 => predict_side_by_side::<2>(bands, cube, y, x, count, room),
+        3 => predict_side_by_side::<3>(bands, cube, y, x, count, room),
+        4 => predict_side_by_side::<4>(bands, cube, y, x, count, room),
+        5 => predict_side_by_side::<5>(bands, cube, y, x, count, room),
+        6 => predict_side_by_side::<6>(bands, cube, y, x, count, room),
+        7 => predict_side_by_side::<7>(bands, cube, y, x, count, room),
+        8 => predict_side_by_side::<8>(bands, cube, y, x, count, room),
+        _ => predict_side_by_side::<9>(bands, cube, y, x, count, room),
+    }
+}
