@@ -42,6 +42,14 @@ pub fn predict_lane<R: Wait, G: Gate>(
     let mut bands = bands;
     let mut taker = LaneTaker::new(rt, predictor, sender, gate);
     let (params, deal) = (plan.params(), plan.deal());
-    let _all = send_own(cube, params, predictor, deal, &mut bands, &mut taker);
+    let _all = send_own(
+        cube,
+        params,
+        predictor,
+        deal,
+        &mut bands,
+        &mut [],
+        &mut taker,
+    );
     taker.end()
 }

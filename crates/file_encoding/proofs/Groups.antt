@@ -109,3 +109,10 @@ line_alone p c y q deal depth zs one mine =
         let first : i * 1 ≡ i = omega arith in
         let size : min 1 (c.shape.bands - i) ≡ 1 = omega (arith, lt) in
         rw (first, size) refl
+
+-- and all its lines are
+pub lines_alone : (p : Params) (c : Image) (q : ℕ) (deal : List ℕ) (depth : ℕ) (zs : List ℕ) → depth ≡ 1 → zs ≡ own q deal (upto c.shape.bands)
+    → flat_map (λ y. line_of p c q deal depth y) (upto c.shape.rows) ≡ flat_map (λ y. flat_map (λ z. row_of p c (z ∷ []) y) zs) (upto c.shape.rows)
+lines_alone p c q deal depth zs one mine =
+    same_lists (λ y. line_of p c q deal depth y) (λ y. flat_map (λ z. row_of p c (z ∷ []) y) zs) 0 0 c.shape.rows
+    (λ i lt. line_alone p c (0 + i) q deal depth zs one mine)

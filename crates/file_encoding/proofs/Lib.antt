@@ -3,6 +3,7 @@ pub mod Columns
 pub mod Encoding
 pub mod Endings
 pub mod Groups
+pub mod KeptRows
 pub mod Owning
 pub mod RowPieces
 pub mod Runs

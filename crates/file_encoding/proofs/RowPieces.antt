@@ -1,80 +1,78 @@
 -- Pieces of a row, one after another.
-use Rattle.std.proofs.Common.{◌≡◌, ◌+◌, ◌*◌, ◌<◌, ◌≤◌, ℕ, List, [], ◌∷◌, ◌++◌, length, map, take, drop, get_or, set, refl, sym, ap, ap₂, ◌∙◌}
-use Rattle.std.proofs.Common.{get_or-take, get_or-drop, get_or-set_other, append-nil, length-drop, length-set, arith}
-use Rattle.std.specs.List.{flat_map}
+use Rattle.std.proofs.Common.{◌≡◌, ◌+◌, ◌*◌, ◌<◌, ◌≤◌, ℕ, List, [], ◌∷◌, ◌++◌, length, map, take, drop, get_or, refl, sym, ap, ap₂, ◌∙◌}
+use Rattle.std.proofs.Common.{get_or-take, append-nil, length-drop, arith}
+use Rattle.std.specs.List.{flat_map, AllZip}
 use Rattle.std.proofs.lemmas.Grind.{flat_map-append}
 use Rattle.std.proofs.lemmas.List.Concat.{flat_map_single}
 use Rattle.std.proofs.lemmas.Nat.{mul-le}
 use Rattle.std.proofs.lemmas.Slice.{take-put_mid}
 use borrow.Rule.Slice.PartMut.{put_mid}
-use Rattle.std.proofs.lemmas.List.{take_more_set, drop_more, drop-set-lt, take-map, drop-map, take-append-drop, length-take, length-take-le}
-use Rattle.std.proofs.lemmas.List.{length-map, get_or-map, take_at, set-append_left, set-append_right}
-use Rattle.std.proofs.Math.Seq.{map-set_same}
+use Rattle.std.proofs.lemmas.List.{take-map, drop-map, length-take, length-take-le}
+use Rattle.std.proofs.lemmas.List.{length-map, get_or-map, take_at}
 use Rattle.cube_core.specs.Image.{Image}
 use Rattle.cube_core.specs.Order.{from, upto}
 use Rattle.cube_core.proofs.Lists.{get_or-from, length-from}
-use Rattle.header_bits.proofs.Items.{all_append, all_weaker}
+use Rattle.header_bits.proofs.Items.{all_weaker}
 use Rattle.header_bits.proofs.TableWriting.{all_at}
 use Rattle.header_bits.specs.declared.params.Params.{Params}
-use Rattle.predict_core.specs.Following.{PredictorState, HoldsPiece}
+use Rattle.predict_core.specs.Following.{PredictorState, IsPieceNext, HoldsPiece}
+use Rattle.predict_core.specs.GroupPieces.{ArePiecesNext}
+use Rattle.sample_prediction.specs.Predictor.{predictor_of}
 use Rattle.sample_prediction.specs.Residual.{mapped_residual, run_residuals}
 use Rattle.file_encoding.specs.Own.{column_of}
-use Rattle.file_encoding.specs.Walks.{IsAt, AreAt, bands_of}
+use Rattle.file_encoding.specs.Walks.{IsSeen, IsAt, AreAt, bands_of}
 use Rattle.file_encoding.specs.Pieces.{IsPast, ArePast, held_at, held_of}
 use Rattle.file_encoding.proofs.Sending.{at_same, from_split, same_lists, all_items, items_from}
 
 -- ---- the bands
 
--- one band has gone over its piece, and so the bands up to it
-pub past_step : (p : Params) (c : Image) (t n i : ℕ) (bands : List PredictorState) (b d : PredictorState) → i < length bands → ArePast p c t n (take i bands)
-    → AreAt p c t (drop i bands) → HoldsPiece c n (get_or bands i b) d
-    → ArePast p c t n (take (i + 1) (set bands i d)) × AreAt p c t (drop (i + 1) (set bands i d))
-past_step p c t n i bands b d lt done left piece =
-    let here : IsAt p c t (get_or bands i b) × AreAt p c t (drop (i + 1) bands) = rw (drop_more bands i b lt) at left in
-    let moves = piece.moved in
-    let past : IsPast p c t n d = record {
-      at = record {
-        follows = piece.follows p here.0.follows;
-        next = moves.t ∙ ap (λ k. k + n) here.0.next;
-        inside = omega (arith, here.0.inside, moves.band);
-      };
-      held = piece.residuals p here.0.follows ∙ ap₂ (λ z k. run_residuals p c z k n) (sym moves.band) here.0.next;
-    } in
-    let all = all_append (IsPast p c t n) (take i bands) (d ∷ []) done (past, tt) in
-    (rw (take_more_set bands i d lt) all, rw (drop-set-lt (i + 1) bands i d (omega arith)) here.1)
+-- the next places of a band are those of the piece
+piece_next : (p : Params) (c : Image) (y x n : ℕ) (b : PredictorState) → IsSeen p c → y < c.shape.rows → x < c.shape.columns → n ≤ 64 → x + n ≤ c.shape.columns
+    → IsAt p c (y * c.shape.columns + x) b → (b.predictor ≡ predictor_of p) × IsPieceNext b c y x n
+piece_next p c y x n b seen row column few within here =
+    let made = here.follows.made in (
+      made.predictor,
+      record {
+        shape = seen.shape ∙ sym made.shape;
+        kind = seen.kind ∙ sym made.kind;
+        place = record { band = rw seen.shape here.inside; row = row; column = column };
+        few = few;
+        inside = within;
+        next = here.next;
+      },
+    )
 
--- it is the same band as before
-pub band_set : (c : Image) (n : ℕ) (bands : List PredictorState) (k : ℕ) (b d : PredictorState) → HoldsPiece c n (get_or bands k b) d
-    → bands_of (set bands k d) ≡ bands_of bands
-band_set c n bands k b d piece = map-set_same (λ r. r.band) _ _ _ b piece.moved.band
+pub pieces_next : (p : Params) (c : Image) (y x n : ℕ) (bands : List PredictorState) → IsSeen p c → y < c.shape.rows → x < c.shape.columns → n ≤ 64
+    → x + n ≤ c.shape.columns → AreAt p c (y * c.shape.columns + x) bands → ArePiecesNext bands c y x n
+pieces_next p c y x n bands seen row column few within at = record {
+  predictor = predictor_of p;
+  each = all_weaker (IsAt p c (y * c.shape.columns + x)) _ (λ b here. piece_next p c y x n b seen row column few within here) bands at;
+}
 
--- two bands that are parted between them have gone over their pieces, and so the bands up to them
-pub past_two : (p : Params) (c : Image) (t n i : ℕ) (bands before rest : List PredictorState) (b d e f : PredictorState) → i + 1 < length bands
-    → before ≡ take (i + 1) bands → rest ≡ drop (i + 1) bands → ArePast p c t n (take i bands) → AreAt p c t (drop i bands)
-    → HoldsPiece c n (get_or before i b) d → HoldsPiece c n (get_or rest 0 e) f
-    → (bands_of (set before i d ++ set rest 0 f) ≡ bands_of bands)
-    × ArePast p c t n (take (i + 1 + 1) (set before i d ++ set rest 0 f)) × AreAt p c t (drop (i + 1 + 1) (set before i d ++ set rest 0 f))
-past_two p c t n i bands before rest b d e f lt front back done left piece other =
-    let there : get_or before i b ≡ get_or bands i b = rw front (get_or-take (i + 1) bands i b (omega arith)) in
-    let later : get_or rest 0 e ≡ get_or (set bands i d) (i + 1) e =
-    rw (get_or-set_other bands i (i + 1) d e (λ h. absurd (omega (arith, h))), back, get_or-drop (i + 1) bands 0 e)
-    (ap (λ k. get_or bands k e) (omega arith)) in
-    let first = rw there at piece in
-    let second = rw later at other in
-    let one = past_step p c t n i bands b d (omega arith) done left first in
-    let two = past_step p c t n (i + 1) (set bands i d) e f (rw length-set lt) one.0 one.1 second in
-    let same : bands_of (set (set bands i d) (i + 1) f) ≡ bands_of bands = band_set c n _ _ _ f second ∙ band_set c n _ _ _ d first in
-    rw (← joined) (same, two.0, two.1)
-  where
-    long : length before ≡ i + 1
-    long = ap length front ∙ length-take-le (i + 1) bands (omega arith)
+-- a band has gone over its piece
+piece_past : (p : Params) (c : Image) (t n : ℕ) (b d : PredictorState) → IsAt p c t b → HoldsPiece c n b d → IsPast p c t n d
+piece_past p c t n b d here piece = record {
+  at = record {
+    follows = piece.follows p here.follows;
+    next = piece.moved.t ∙ ap (λ k. k + n) here.next;
+    inside = omega (arith, here.inside, piece.moved.band);
+  };
+  held = piece.residuals p here.follows ∙ ap₂ (λ z k. run_residuals p c z k n) (sym piece.moved.band) here.next;
+}
 
-    joined : set (set bands i d) (i + 1) f ≡ set before i d ++ set rest 0 f
-    joined =
-        ap (λ bs. set (set bs i d) (i + 1) f) (sym (take-append-drop (i + 1) bands) ∙ ap₂ (λ xs ys. xs ++ ys) (sym front) (sym back))
-        ∙ ap (λ bs. set bs (i + 1) f) (set-append_left before rest i d (omega (arith, long)))
-        ∙ set-append_right (set before i d) rest (i + 1) (i + 1) f (length-set before i d ∙ long) (omega arith)
-        ∙ ap (λ k. set before i d ++ set rest k f) (omega arith)
+-- all of them have, and are the same bands as before
+pub pieces_past : (p : Params) (c : Image) (t n : ℕ) (bands new : List PredictorState) → AreAt p c t bands → AllZip (HoldsPiece c n) bands new
+    → ArePast p c t n new
+pieces_past p c t n [] [] at h = tt
+pieces_past p c t n [] (d ∷ new) at h = absurd h
+pieces_past p c t n (b ∷ bands) [] at h = absurd h
+pieces_past p c t n (b ∷ bands) (d ∷ new) at h = (piece_past p c t n b d at.0 h.0, pieces_past p c t n bands new at.1 h.1)
+
+pub same_bands : (c : Image) (n : ℕ) (bands new : List PredictorState) → AllZip (HoldsPiece c n) bands new → bands_of new ≡ bands_of bands
+same_bands c n [] [] h = refl
+same_bands c n [] (d ∷ new) h = absurd h
+same_bands c n (b ∷ bands) [] h = absurd h
+same_bands c n (b ∷ bands) (d ∷ new) h = ap₂ (λ z zs. z ∷ zs) h.0.moved.band (same_bands c n bands new h.1)
 
 pub past_at : (p : Params) (c : Image) (t n u : ℕ) (bands : List PredictorState) → ArePast p c t n bands → t + n ≡ u → AreAt p c u bands
 past_at p c t n u bands h e = at_same p c (t + n) u bands (all_weaker (IsPast p c t n) (IsAt p c (t + n)) (λ b h. h.at) bands h) e

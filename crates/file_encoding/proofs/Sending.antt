@@ -151,14 +151,8 @@ items_from xs d a (suc n) le =
 pub all_items : {A : Type 0} (xs : List A) (d : A) (n : ℕ) → length xs ≡ n → xs ≡ map (λ i. get_or xs i d) (upto n)
 all_items xs d n e = sym (items_from xs d 0 n (omega (arith, e)) ∙ take_all n xs (omega (arith, e)))
 
--- one band alone, and two
+-- one band alone
 pub one_alone : (f : List ℕ → List ℕ) (bands : List PredictorState) → length bands ≡ 1 → f (bands_of bands) ≡ flat_map (λ z. f (z ∷ [])) (bands_of bands)
 one_alone f bands e =
     let all = all_items (bands_of bands) 0 1 (length-map bands (λ b. b.band) ∙ e) in
     subst (λ v. f v ≡ flat_map (λ z. f (z ∷ [])) v) (sym all) (sym (append-nil (f (get_or (bands_of bands) 0 0 ∷ []))))
-
-pub two_alone : (f : ℕ → List ℕ) (bands : List PredictorState) → length bands ≡ 2
-    → flat_map f (bands_of bands) ≡ f (get_or (bands_of bands) 0 0) ++ f (get_or (bands_of bands) 1 0)
-two_alone f bands e =
-    ap (flat_map f) (all_items (bands_of bands) 0 2 (length-map bands (λ b. b.band) ∙ e))
-    ∙ ap (λ v. f (get_or (bands_of bands) 0 0) ++ v) (append-nil (f (get_or (bands_of bands) 1 0)))

@@ -1,5 +1,5 @@
 -- Pieces of a row: places that several band predictors have passed together, and the residuals that they hold for them.
-use Rattle.std.specs.Prelude.{◌≡◌, ℕ, ◌+◌, List, map, take, slice_index_or}
+use Rattle.std.specs.Prelude.{◌≡◌, ℕ, ◌+◌, ◌*◌, List, map, take, drop, slice_index_or}
 use Rattle.std.specs.List.{flat_map, AllByRecursion}
 use Rattle.cube_core.specs.Image.{Image}
 use Rattle.cube_core.specs.Order.{upto}
@@ -24,3 +24,7 @@ held_at bands i = map (λ b. slice_index_or b.piece i 0) bands
 -- the residuals that they hold for the first n places of their pieces, place after place
 abbrev pub held_of : List PredictorState → ℕ → List ℕ
 held_of bands n = flat_map (λ i. held_at bands i) (upto n)
+
+-- the first n numbers of row k, where rows of as many columns stand one after another
+abbrev pub row_start : ℕ → ℕ → ℕ → List ℕ → List ℕ
+row_start columns k n room = take n (drop (k * columns) room)

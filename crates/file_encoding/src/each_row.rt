@@ -1,26 +1,57 @@
 //! Rows of bands that come one after another, as in the order by line.
 
-ghost use Rattle.std.specs.Prelude.{◌≡◌, ◌+◌, ◌*◌, ◌<◌, ◌≤◌, ◌∷◌, [], length, IsTrue};
+ghost use Rattle.std.specs.Prelude.{◌≡◌, ◌+◌, ◌*◌, ◌-◌, ◌<◌, ◌≤◌, ◌∷◌, [], length, IsTrue};
 ghost use Rattle.std.specs.List.{flat_map};
+ghost use Rattle.cube_core.specs.Order.{upto};
 ghost use Rattle.file_encoding.specs.Own.{row_of};
 ghost use Rattle.file_encoding.specs.Walks.{IsSeen, AreAt, bands_of};
 
-use crate::pieces::{RUN, predict_pieces};
+use crate::pieces::GROUP;
+use crate::side_by_side::send_first_row;
 use crate::taker::Taker;
-use crate::walk::{PIECE, send_row};
 use cube_core::cube::Cube;
 use header_bits::params::Params;
 use predict_core::band::Band;
+use predict_core::group::room::GroupRoom;
+
+/// The greatest number of residuals that are kept: seven rows of 2048 columns.
+const ROOM: usize = 14336;
+
+/// Sends the residuals of some bands, row after row, and in each row band after band. Returns false if the taker has
+/// stopped.
+pub(crate) fn send_each_line<T: Taker>(
+    cube: &Cube,
+    params: &Params,
+    bands: &mut [Band],
+    taker: &mut T,
+) -> bool
+    requires image { IsSeen params.now cube.now }
+    requires at { AreAt params.now cube.now 0 bands.old }
+    requires may { T.may taker.old (flat_map (λ y. flat_map (λ z. row_of params.now cube.now (z ∷ []) y) (bands_of bands.old)) (upto cube.now.shape.rows)) }
+    ensures { T.takes taker.old taker.new result
+        (flat_map (λ y. flat_map (λ z. row_of params.now cube.now (z ∷ []) y) (bands_of bands.old)) (upto cube.now.shape.rows)) }
+{
+    let mut room = [0; ROOM];
+    let mut group = GroupRoom::new();
+    for y in 0..cube.shape().rows() {
+        if !send_each_row(cube, params, y, bands, &mut room, &mut group, taker) {
+            return false;
+        }
+    }
+    true
+}
 
 /// Sends the residuals of some bands in row `y`, band after band. Returns false if the taker has stopped.
 ///
-/// Two bands at a time go over their rows side by side, where there is room for the row of the second.
+/// As many bands at a time go over their rows side by side as are predicted at once, or as there is room for the rows of.
 #[tactic(auto, using(crate::proofs::Sending::bands_put))]
-pub(crate) fn send_each_row<T: Taker>(
+fn send_each_row<T: Taker>(
     cube: &Cube,
     params: &Params,
     y: u32,
     bands: &mut [Band],
+    room: &mut [u16; ROOM],
+    group: &mut GroupRoom,
     taker: &mut T,
 ) -> bool
     requires image { IsSeen params.now cube.now }
@@ -31,15 +62,20 @@ pub(crate) fn send_each_row<T: Taker>(
     ensures at { IsTrue result → AreAt params.now cube.now ((y + 1) * cube.now.shape.columns) bands.new }
     ensures same { bands_of bands.new ≡ bands_of bands.old }
 {
-    let most: usize = if cube.shape().columns() as usize <= RUN {
-        2
-    } else {
-        1
-    };
+    let columns = cube.shape().columns() as usize;
+    let most = GROUP.min(1 + ROOM / columns);
     let mut first = 0;
     while first < bands.len() {
         let count = most.min(bands.len() - first);
-        if !send_next_rows(cube, params, y, &mut bands[first..first + count], taker) {
+        if !send_next_rows(
+            cube,
+            params,
+            y,
+            &mut bands[first..first + count],
+            room,
+            group,
+            taker,
+        ) {
             return false;
         }
         first += count;
@@ -47,62 +83,30 @@ pub(crate) fn send_each_row<T: Taker>(
     true
 }
 
-/// Does the same for one band, or for two where there is room for a row.
+/// Does the same for one band or more, which go over their rows side by side: all rows but the first are kept until that
+/// one was sent.
 fn send_next_rows<T: Taker>(
     cube: &Cube,
     params: &Params,
     y: u32,
     bands: &mut [Band],
+    room: &mut [u16; ROOM],
+    group: &mut GroupRoom,
     taker: &mut T,
 ) -> bool
     requires image { IsSeen params.now cube.now }
     requires row { y < cube.now.shape.rows }
-    requires few { (1 ≤ length bands.old) × (length bands.old ≤ 2) }
-    requires room { length bands.old ≡ 2 → cube.now.shape.columns ≤ 2048 }
+    requires some { 1 ≤ length bands.old }
+    requires room { (length bands.old - 1) * cube.now.shape.columns ≤ 14336 }
     requires at { AreAt params.now cube.now (y * cube.now.shape.columns) bands.old }
     requires may { T.may taker.old (flat_map (λ z. row_of params.now cube.now (z ∷ []) y) (bands_of bands.old)) }
     ensures sent { T.takes taker.old taker.new result (flat_map (λ z. row_of params.now cube.now (z ∷ []) y) (bands_of bands.old)) }
     ensures at { IsTrue result → AreAt params.now cube.now ((y + 1) * cube.now.shape.columns) bands.new }
     ensures same { bands_of bands.new ≡ bands_of bands.old }
 {
-    if bands.len() == 2 {
-        send_two_rows(cube, params, y, bands, taker)
-    } else {
-        send_row(cube, params, y, bands, taker)
+    let columns = cube.shape().columns() as usize;
+    if !send_first_row(cube, params, y, 0, columns, bands, room, group, taker) {
+        return false;
     }
-}
-
-/// Does the same for two bands, which go over their rows side by side: the row of the second is kept until that of the
-/// first was sent.
-fn send_two_rows<T: Taker>(
-    cube: &Cube,
-    params: &Params,
-    y: u32,
-    bands: &mut [Band],
-    taker: &mut T,
-) -> bool
-    requires image { IsSeen params.now cube.now }
-    requires row { y < cube.now.shape.rows }
-    requires two { length bands.old ≡ 2 }
-    requires room { cube.now.shape.columns ≤ 2048 }
-    requires at { AreAt params.now cube.now (y * cube.now.shape.columns) bands.old }
-    requires may { T.may taker.old (flat_map (λ z. row_of params.now cube.now (z ∷ []) y) (bands_of bands.old)) }
-    ensures sent { T.takes taker.old taker.new result (flat_map (λ z. row_of params.now cube.now (z ∷ []) y) (bands_of bands.old)) }
-    ensures at { IsTrue result → AreAt params.now cube.now ((y + 1) * cube.now.shape.columns) bands.new }
-    ensures same { bands_of bands.new ≡ bands_of bands.old }
-{
-    let columns = cube.shape().columns();
-    let mut row = [0; RUN];
-    let mut x = 0;
-    while x < columns {
-        let count = PIECE.min(columns - x);
-        predict_pieces(cube, params, y, x, count, bands);
-        if !taker.take(bands[0].piece_residuals(count as usize)) {
-            return false;
-        }
-        let kept = &mut row[x as usize..(x + count) as usize];
-        kept.copy_from_slice(bands[1].piece_residuals(count as usize));
-        x += count;
-    }
-    taker.take(&row[..columns as usize])
+    taker.take(&room[..(bands.len() - 1) * columns])
 }

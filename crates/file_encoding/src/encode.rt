@@ -6,7 +6,7 @@ ghost use Rattle.header_bits.specs.Lawful.{IsLawful};
 ghost use Rattle.file_format.specs.File.{file_of};
 
 use crate::file_encoder::FileEncoder;
-use crate::walk::send_own;
+use crate::walk::{planes_room, send_own};
 use cube_core::cube::Cube;
 use cube_core::fault::Fault;
 use header_bits::params::Params;
@@ -26,7 +26,8 @@ pub fn encode_one(alloc: Global, cube: &Cube, params: &Params) -> Result<Vec<u8>
     cube.prove_is_cube();
     let mut bands = all_bands(alloc, params)?;
     let mut end = FileEncoder::new(alloc, params)?;
-    if !send_own(cube, params, 0, &[], &mut bands, &mut end) {
+    let mut room = planes_room(alloc, params);
+    if !send_own(cube, params, 0, &[], &mut bands, &mut room, &mut end) {
         return Err(Fault::WantOfMemory);
     }
     end.finish()

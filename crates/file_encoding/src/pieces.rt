@@ -10,9 +10,14 @@ use crate::taker::Taker;
 use cube_core::cube::Cube;
 use header_bits::params::Params;
 use predict_core::band::Band;
+use predict_core::group::predict::predict_group;
+use predict_core::group::room::GroupRoom;
 
 /// The greatest number of residuals of several bands that are passed on at once.
 pub(crate) const RUN: usize = 2048;
+
+/// The greatest number of bands that are predicted at once.
+pub(crate) const GROUP: usize = 8;
 
 /// Has each of some bands go over `count` places of row `y`, from column `x` on, and hold their residuals.
 pub(crate) fn predict_pieces(
@@ -22,6 +27,7 @@ pub(crate) fn predict_pieces(
     x: u32,
     count: u32,
     bands: &mut [Band],
+    group: &mut GroupRoom,
 )
     requires image { IsSeen params.now cube.now }
     requires place { (y < cube.now.shape.rows) × (x < cube.now.shape.columns) }
@@ -31,16 +37,11 @@ pub(crate) fn predict_pieces(
     ensures same { bands_of bands.new ≡ bands_of bands.old }
 {
     let count = count as usize;
-    let pairs = bands.len() / 2;
-    for k in 0..pairs {
-        let (before, rest) = bands.split_at_mut(2 * k + 1);
-        let band = &mut before[2 * k];
-        let other = &mut rest[0];
-        band.predict_pieces(other, cube, y, x, count);
-    }
-    if 2 * pairs < bands.len() {
-        let band = &mut bands[2 * pairs];
-        band.predict_piece(cube, y, x, count);
+    let mut first = 0;
+    while first < bands.len() {
+        let last = bands.len().min(first + GROUP);
+        predict_group(&mut bands[first..last], cube, y, x, count, group);
+        first = last;
     }
 }
 

@@ -1,20 +1,22 @@
 //! The walk over the places of some bands, in encoding order: all bands of an image, or those of one predictor.
 
-ghost use Rattle.std.specs.Prelude.{◌≡◌, ◌+◌, ◌*◌, ◌-◌, ◌^◌, ◌<◌, ◌≤◌, ◌∷◌, [], ◌++◌, length, slice_index_or, IsTrue};
-ghost use Rattle.std.specs.List.{flat_map};
-ghost use Rattle.cube_core.specs.Order.{IsOrder, from, upto, group, group_count};
+ghost use Rattle.std.specs.Prelude.{◌≡◌, ◌+◌, ◌*◌, ◌-◌, ◌<◌, ◌≤◌, length, slice_index_or, vec_len, IsTrue};
+ghost use Rattle.cube_core.specs.Order.{from, upto, group};
 ghost use Rattle.cube_core.specs.declared.order.Order.TheVariants.{Bi};
 ghost use Rattle.header_bits.specs.Lawful.{IsLawful};
-ghost use Rattle.file_encoding.specs.Own.{own, row_of, rows_of, line_of, own_residuals};
+ghost use Rattle.file_encoding.specs.Own.{own, row_of, line_of, own_residuals};
 ghost use Rattle.file_encoding.specs.Walks.{IsSeen, AreAt, AreFresh, bands_of};
 
-use crate::each_row::send_each_row;
+use crate::each_plane::send_bands;
+use crate::each_row::send_each_line;
 use crate::pieces::{RUN, predict_pieces, send_pieces};
 use crate::taker::Taker;
 use cube_core::cube::Cube;
 use cube_core::order::Order;
 use header_bits::params::Params;
 use predict_core::band::Band;
+use predict_core::group::room::GroupRoom;
+use std::alloc::Global;
 
 /// The greatest number of places in a piece of a row.
 pub(crate) const PIECE: u32 = 64;
@@ -25,6 +27,7 @@ pub(crate) fn send_row<T: Taker>(
     params: &Params,
     y: u32,
     bands: &mut [Band],
+    group: &mut GroupRoom,
     taker: &mut T,
 ) -> bool
     requires image { IsSeen params.now cube.now }
@@ -43,42 +46,11 @@ pub(crate) fn send_row<T: Taker>(
     let mut x = 0;
     while x < columns {
         let count = PIECE.min(columns - x);
-        predict_pieces(cube, params, y, x, count, bands);
+        predict_pieces(cube, params, y, x, count, bands, group);
         if !send_pieces(count as usize, bands, &mut room, taker) {
             return false;
         }
         x += count;
-    }
-    true
-}
-
-/// Sends the residuals of some bands, row after row. Returns false if the taker has stopped.
-fn send_rows<T: Taker>(cube: &Cube, params: &Params, bands: &mut [Band], taker: &mut T) -> bool
-    requires image { IsSeen params.now cube.now }
-    requires at { AreAt params.now cube.now 0 bands.old }
-    requires may { T.may taker.old (rows_of params.now cube.now (bands_of bands.old)) }
-    ensures sent { T.takes taker.old taker.new result (rows_of params.now cube.now (bands_of bands.old)) }
-    ensures same { bands_of bands.new ≡ bands_of bands.old }
-{
-    for y in 0..cube.shape().rows() {
-        if !send_row(cube, params, y, bands, taker) {
-            return false;
-        }
-    }
-    true
-}
-
-/// Sends the residuals of some bands, band after band. Returns false if the taker has stopped.
-fn send_bands<T: Taker>(cube: &Cube, params: &Params, bands: &mut [Band], taker: &mut T) -> bool
-    requires image { IsSeen params.now cube.now }
-    requires at { AreAt params.now cube.now 0 bands.old }
-    requires may { T.may taker.old (flat_map (λ z. rows_of params.now cube.now (z ∷ [])) (bands_of bands.old)) }
-    ensures sent { T.takes taker.old taker.new result (flat_map (λ z. rows_of params.now cube.now (z ∷ [])) (bands_of bands.old)) }
-{
-    for i in 0..bands.len() {
-        if !send_rows(cube, params, &mut bands[i..i + 1], taker) {
-            return false;
-        }
     }
     true
 }
@@ -120,6 +92,7 @@ fn send_line<T: Taker>(
     depth: u32,
     y: u32,
     bands: &mut [Band],
+    group: &mut GroupRoom,
     taker: &mut T,
 ) -> bool
     requires image { IsSeen params.now cube.now }
@@ -132,9 +105,6 @@ fn send_line<T: Taker>(
     ensures at { IsTrue result → AreAt params.now cube.now ((y + 1) * cube.now.shape.columns) bands.new }
     ensures same { bands_of bands.new ≡ bands_of bands.old }
 {
-    if depth == 1 {
-        return send_each_row(cube, params, y, bands, taker);
-    }
     let total = cube.shape().bands();
     let groups = (total + depth - 1) / depth;
     let mut first = 0;
@@ -143,7 +113,14 @@ fn send_line<T: Taker>(
         let _group = i;
         let end = total.min(first + depth);
         let count = count_own(deal, predictor, first, end);
-        if !send_row(cube, params, y, &mut bands[slot..slot + count], taker) {
+        if !send_row(
+            cube,
+            params,
+            y,
+            &mut bands[slot..slot + count],
+            group,
+            taker,
+        ) {
             return false;
         }
         first = end;
@@ -169,25 +146,50 @@ fn send_lines<T: Taker>(
     requires may { T.may taker.old (own_residuals params.now cube.now predictor deal.now (Bi depth)) }
     ensures { T.takes taker.old taker.new result (own_residuals params.now cube.now predictor deal.now (Bi depth)) }
 {
+    if depth == 1 {
+        return send_each_line(cube, params, bands, taker);
+    }
+    let mut group = GroupRoom::new();
     for y in 0..cube.shape().rows() {
-        if !send_line(cube, params, predictor, deal, depth, y, bands, taker) {
+        if !send_line(
+            cube, params, predictor, deal, depth, y, bands, &mut group, taker,
+        ) {
             return false;
         }
     }
     true
 }
 
+/// Returns room for the residuals that `send_own` keeps where band comes after band. It is empty in another order, and where it
+/// can't be allocated.
+///
+/// There is room for at most seven bands, and for no more than half of the image's.
+pub fn planes_room(alloc: Global, params: &Params) -> Vec<u16>
+    ensures seven { vec_len result ≤ 7 * (params.now.shape.rows * params.now.shape.columns) }
+    ensures half { 2 * vec_len result ≤ params.now.shape.bands * (params.now.shape.rows * params.now.shape.columns) }
+{
+    let mut room = Vec::new(alloc);
+    if params.order == Order::Bsq {
+        let shape = params.shape;
+        let kept = shape.bands().min(14) as usize / 2;
+        let _had = room.resize(kept * (shape.rows() as usize * shape.columns() as usize), 0);
+    }
+    room
+}
+
 /// Sends the residuals of a predictor's bands, in encoding order. By an empty deal all bands belong to the
 /// first predictor. Returns false if the taker has stopped.
 ///
 /// The parameters are lawful, the cube has their shape and kind, and the bands are the predictor's, in order, each at its first
-/// place. Afterwards the state of the bands is unspecified.
+/// place. Afterwards the state of the bands is unspecified. `room` may have any length: where band comes after band, as many
+/// bands at a time go over the cube as it can hold planes of all but one of, which takes less time than one after another.
 pub fn send_own<T: Taker>(
     cube: &Cube,
     params: &Params,
     predictor: u32,
     deal: &[u8],
     bands: &mut [Band],
+    room: &mut [u16],
     taker: &mut T,
 ) -> bool
     requires image { IsSeen params.now cube.now }
@@ -197,7 +199,7 @@ pub fn send_own<T: Taker>(
     ensures { T.takes taker.old taker.new result (own_residuals params.now cube.now predictor deal.now params.now.order) }
 {
     match params.order {
-        Order::Bsq => send_bands(cube, params, bands, taker),
+        Order::Bsq => send_bands(cube, params, bands, room, taker),
         Order::Bi(depth) => send_lines(cube, params, predictor, deal, depth, bands, taker),
     }
 }

@@ -21,7 +21,7 @@ use cube_core::fault::Fault;
 use cube_core::kind::Kind;
 use cube_core::order::Order;
 use cube_core::shape::Shape;
-use file_encoding::walk::send_own;
+use file_encoding::walk::{planes_room, send_own};
 use header_bits::params::{Coder, Params, WeightStart};
 use header_bits::tables::WeightTable;
 use predict_core::bands::all_bands;
@@ -191,7 +191,8 @@ fn forward(
 {
     cube.prove_is_cube();
     let mut bands = all_bands(alloc, params)?;
-    if send_own(cube, params, 0, &[], &mut bands, collected) {
+    let mut room = planes_room(alloc, params);
+    if send_own(cube, params, 0, &[], &mut bands, &mut room, collected) {
         Ok(())
     } else {
         Err(Fault::WantOfMemory)

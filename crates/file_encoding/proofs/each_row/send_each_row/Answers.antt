@@ -1,10 +1,12 @@
-use Rattle.std.proofs.Common.{◌+◌, ◌-◌, ◌∷◌, [], ◌≤◌, ℕ, List, refl, ap, take, drop, length-take, length-drop, arith}
+use Rattle.std.proofs.lemmas.Nat.{mul-le}
+use Rattle.std.proofs.Math.Nat.{div-mul-le_self}
+use Rattle.std.proofs.Common.{◌≡◌, ◌*◌, ◌/◌, length, ◌+◌, ◌-◌, ◌∷◌, [], ◌≤◌, ℕ, List, refl, ap, take, drop, length-take, subst, arith}
 use Rattle.std.specs.List.{flat_map}
 use Rattle.file_encoding.specs.Own.{row_of}
 use Rattle.file_encoding.specs.Walks.{bands_of}
 use Rattle.file_encoding.proofs.Sending.{Steps, none_yet, stepped, some_rest, next_bands, parted_put}
 use Rattle.file_encoding.proofs.each_row.send_each_row.Goals as goal
-use Rattle.file_encoding.proofs.each_row.send_each_row.Goals.{After-min-count, then-columns-le-RUN, else-columns-le-RUN}
+use Rattle.file_encoding.proofs.each_row.send_each_row.Goals.{After-min-count}
 use Rattle.file_encoding.proofs.each_row.send_each_row.Given.{Over}
 
 module _ (g : Over) (c : After-min-count g) where
@@ -37,9 +39,13 @@ pub loop-first-init : goal.loop-first-init
 loop-first-init g c = record { parted = record { done = tt; left = c.requires.at; same = refl }; sent = none_yet g.met.T.Taker.laws c.requires.may }
 
 pub send_next_rows-requires-clause-room : goal.send_next_rows-requires-clause-room
-send_next_rows-requires-clause-room g c = λ two.
-    let several : 2 ≤ c.if-columns-le-RUN.most = omega (arith, simp (length-take, length-drop) at two) in
-    elim c.if-columns-le-RUN.branch [
-      | then-columns-le-RUN w ↦ omega (arith, ap (λ s. s.columns) c.shape.ensures)
-      | else-columns-le-RUN w ↦ absurd (omega (arith, several, w.most-is))
-    ]
+send_next_rows-requires-clause-room g c =
+    let columns = c.columns-columns.result in
+    let many = c.loop-first.first + c.min-count.result - c.loop-first.first in
+    let next = drop c.loop-first.first c.loop-first.bands in
+    let kept = length (take many next) - 1 in
+    let few : kept ≤ 14336 / columns = omega (arith, length-take many next) in
+    let within : kept * columns ≤ 14336 / columns * columns = mul-le kept columns (14336 / columns) columns few (omega arith) in
+    let fits : kept * columns ≤ 14336 = omega (arith, within, div-mul-le_self 14336 columns) in
+    let same : columns ≡ c.args.cube.now.shape.columns = omega (arith, ap (λ s. s.columns) c.shape.ensures) in
+    subst (λ n. kept * n ≤ 14336) same fits

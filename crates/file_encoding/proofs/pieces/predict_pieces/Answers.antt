@@ -1,27 +1,23 @@
-use Rattle.std.proofs.Common.{◌≡◌, ◌+◌, ◌*◌, ◌/◌, ◌<◌, ◌≤◌, ◌∙◌, length, slice_set, arith, length-set, take_all}
-use Rattle.predict_core.specs.Following.{PredictorState}
-use Rattle.file_encoding.proofs.RowPieces.{band_set, past_step, past_two}
+use Rattle.std.proofs.Common.{◌+◌, ◌*◌, ◌-◌, take, drop, arith}
+use Rattle.header_bits.proofs.Items.{all_take}
+use Rattle.file_encoding.specs.Walks.{IsAt, AreAt}
+use Rattle.file_encoding.proofs.Sending.{parted_put}
+use Rattle.file_encoding.proofs.RowPieces.{pieces_next, pieces_past, same_bands}
 use Rattle.file_encoding.proofs.pieces.predict_pieces.Goals as goal
+use Rattle.file_encoding.proofs.pieces.predict_pieces.Goals.{After-min-last}
 
-pub loop-k-preserved : goal.loop-k-preserved
-loop-k-preserved c =
-    let was = c.loop-k.invariant in
-    let split = c.split_at_mut-before.ensures in
-    let told = c.predict_pieces.ensures in
-    let lt : 2 * c.loop-k.k + 1 < length c.loop-k.bands = omega arith in
-    let two = past_two c.args.params.now _ _ _ _ _ _ _ _ _ _ _ lt split.front split.back was.done was.left told.held told.other_held in
-    let next : 2 * (c.loop-k.k + 1) ≡ 2 * c.loop-k.k + 1 + 1 = omega arith in
-    rw next (record { done = two.1; left = two.2; same = two.0 ∙ was.same })
+next : (c : After-min-last) → AreAt c.args.params.now c.args.cube.now (c.args.y * c.args.cube.now.shape.columns + c.args.x)
+    (take (c.min-last.result - c.loop-first.first) (drop c.loop-first.first c.loop-first.bands))
+next c = all_take (IsAt c.args.params.now c.args.cube.now _) _ _ c.loop-first.invariant.left
 
-pub returns-then-pairs-bands-clause-past : goal.returns-then-pairs-bands-clause-past
-returns-then-pairs-bands-clause-past c =
-    let was = c.loop-k.invariant in
-    let bands = slice_set c.loop-k.bands (2 * (length c.args.bands.now / 2)) c.predict_piece.new.self in
-    let whole : length bands ≤ 2 * (length c.args.bands.now / 2) + 1 = omega (arith, length-set {A = PredictorState}) in
-    let end : 2 * c.loop-k.k ≡ 2 * (length c.args.bands.now / 2) = omega arith in
-    let past = past_step c.args.params.now _ _ _ _ c.loop-k.bands _ c.predict_piece.new.self (omega arith) (rw end at was.done) (rw end at was.left)
-    c.predict_piece.ensures.held in
-    rw (take_all (2 * (length c.args.bands.now / 2) + 1) bands whole) at past.0
+pub predict_group-requires-clause-next : goal.predict_group-requires-clause-next
+predict_group-requires-clause-next c =
+    let place = c.requires.place in let piece = c.requires.piece in
+    pieces_next _ _ _ _ _ _ c.requires.image place.0 place.1 piece.0 piece.1 (next (goal.at.predict_group-requires-clause-next c).After-min-last)
 
-pub returns-then-pairs-bands-clause-same : goal.returns-then-pairs-bands-clause-same
-returns-then-pairs-bands-clause-same c = band_set _ _ _ _ _ _ c.predict_piece.ensures.held ∙ c.loop-k.invariant.same
+pub loop-first-preserved : goal.loop-first-preserved
+loop-first-preserved c =
+    let told = c.predict_group.ensures.held in
+    let past = pieces_past _ _ _ _ _ _ (next (goal.at.loop-first-preserved c).After-min-last) told in
+    parted_put (c.min-last.result - c.loop-first.first) c.min-last.result _ c.loop-first.invariant (omega arith) (omega arith) past
+    (same_bands c.args.cube.now c.args.count _ _ told)

@@ -1,11 +1,11 @@
-use Rattle.std.proofs.Common.{◌≡◌, ◌+◌, ◌*◌, take, drop}
-use Rattle.file_encoding.specs.Walks.{AreAt, bands_of}
-use Rattle.file_encoding.specs.Pieces.{ArePast}
+use Rattle.std.proofs.Common.{◌+◌, ◌*◌, ◌-◌, length}
+use Rattle.file_encoding.specs.Pieces.{IsPast}
+use Rattle.file_encoding.proofs.Sending.{Parted}
 use Rattle.file_encoding.proofs.pieces.predict_pieces.Given as goal
 
-abbrev pub invariant-loop-k : goal.invariant-loop-k
-invariant-loop-k l = record {
-  done : ArePast l.params l.cube (l.y * l.cube.shape.columns + l.x) l.count (take (2 * l.k) l.bands);
-  left : AreAt l.params l.cube (l.y * l.cube.shape.columns + l.x) (drop (2 * l.k) l.bands);
-  same : bands_of l.bands ≡ bands_of l.initial.bands;
-}
+abbrev pub invariant-loop-first : goal.invariant-loop-first
+invariant-loop-first l =
+    Parted (IsPast l.params l.cube (l.y * l.cube.shape.columns + l.x) l.count) l.params l.cube (l.y * l.cube.shape.columns + l.x) l.first l.bands l.initial.bands
+
+abbrev pub decreases-loop-first : goal.decreases-loop-first
+decreases-loop-first l = length l.bands - l.first

@@ -1,10 +1,10 @@
-use Rattle.std.proofs.Common.{rules, ◌≡◌, ◌+◌, ◌-◌, ◌/◌, ℕ, List, subst, refl, ap, sym, take, drop, arith, ◌∙◌}
+use Rattle.std.proofs.Common.{rules, ◌≡◌, ◌+◌, ◌-◌, ◌/◌, ℕ, List, refl, ap, take, drop, arith, ◌∙◌}
 use Rattle.std.specs.List.{flat_map}
 use Rattle.cube_core.specs.Order.{upto, group}
 use Rattle.file_encoding.specs.Own.{own, row_of, line_of}
 use Rattle.file_encoding.specs.Walks.{bands_of}
 use Rattle.file_encoding.proofs.Sending.{Steps, none_yet, stepped, upto_rest, parted_put, bands_put}
-use Rattle.file_encoding.proofs.Groups.{IsGroup, is_group, line_alone}
+use Rattle.file_encoding.proofs.Groups.{IsGroup, is_group}
 use Rattle.std.proofs.lemmas.Grind.{common_steps}
 use Rattle.file_encoding.proofs.walk.send_line.Goals as goal
 use Rattle.file_encoding.proofs.walk.send_line.Goals.{After-count_own-count}
@@ -29,15 +29,6 @@ module _ (g : Over) (c : After-count_own-count g) where
   step =
       stepped g.met.T.Taker.laws c.loop-i.invariant.sent c.requires.may (upto_rest run _ _ there.in_order)
       (ap (λ zs. row_of c.args.params.now c.args.cube.now zs c.args.y) there.there)
-
-pub send_each_row-requires-clause-may : goal.send_each_row-requires-clause-may
-send_each_row-requires-clause-may g c =
-    subst (g.T.Taker.may c.args.taker.now) (line_alone _ _ _ _ _ _ _ c.if-depth-eq1.true c.requires.own) c.requires.may
-
-pub returns-then-depth-eq1-clause-sent : goal.returns-then-depth-eq1-clause-sent
-returns-then-depth-eq1-clause-sent g c =
-    subst (g.T.Taker.takes c.args.taker.now c.send_each_row.new.taker c.send_each_row.result)
-    (sym (line_alone _ _ _ _ _ _ _ c.if-depth-eq1.true c.requires.own)) c.send_each_row.ensures.sent
 
 pub overflow_add-slot : goal.overflow_add-slot
 overflow_add-slot g c = let h = there g c in omega arith

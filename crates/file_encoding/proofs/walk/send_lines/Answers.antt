@@ -1,9 +1,10 @@
-use Rattle.std.proofs.Common.{◌<◌, ◌+◌, ap, arith, refl, ◌∙◌}
+use Rattle.std.proofs.Common.{◌<◌, ◌+◌, ap, arith, refl, subst, sym, ◌∙◌}
 use Rattle.std.specs.List.{flat_map}
 use Rattle.cube_core.specs.Order.{upto}
 use Rattle.file_encoding.specs.Own.{line_of, own_residuals}
 use Rattle.cube_core.specs.declared.order.Order.TheVariants.{Bi}
 use Rattle.file_encoding.proofs.Sending.{Steps, stepped, upto_rest, none_yet, at_same}
+use Rattle.file_encoding.proofs.Groups.{lines_alone}
 use Rattle.file_encoding.proofs.walk.send_lines.Goals as goal
 use Rattle.file_encoding.proofs.walk.send_lines.Goals.{In-loop-y}
 use Rattle.file_encoding.proofs.walk.send_lines.Given.{Over}
@@ -31,3 +32,12 @@ loop-y-preserved g c = record {
 
 pub loop-y-init : goal.loop-y-init
 loop-y-init g c = record { at = at_same _ _ _ _ _ c.requires.at (omega arith); same = refl; sent = none_yet g.met.T.Taker.laws c.requires.may }
+
+pub send_each_line-requires-clause-may : goal.send_each_line-requires-clause-may
+send_each_line-requires-clause-may g c =
+    subst (g.T.Taker.may c.args.taker.now) (lines_alone _ _ _ _ _ _ c.if-depth-eq1.true c.requires.own) c.requires.may
+
+pub returns-then-depth-eq1 : goal.returns-then-depth-eq1
+returns-then-depth-eq1 g c =
+    subst (g.T.Taker.takes c.args.taker.now c.send_each_line.new.taker c.send_each_line.result)
+    (sym (lines_alone _ _ _ _ _ _ c.if-depth-eq1.true c.requires.own)) c.send_each_line.ensures

@@ -1,0 +1,82 @@
+//! Planes of bands that come one after another, as in the order by band.
+
+ghost use Rattle.std.specs.Prelude.{◌≡◌, ◌+◌, ◌*◌, ◌-◌, ◌<◌, ◌≤◌, ◌∷◌, [], length};
+ghost use Rattle.std.specs.List.{flat_map};
+ghost use Rattle.file_encoding.specs.Own.{rows_of};
+ghost use Rattle.file_encoding.specs.Walks.{IsSeen, AreAt, bands_of};
+
+use crate::pieces::GROUP;
+use crate::side_by_side::send_first_row;
+use crate::taker::Taker;
+use cube_core::cube::Cube;
+use header_bits::params::Params;
+use predict_core::band::Band;
+use predict_core::group::room::GroupRoom;
+
+/// Sends the residuals of some bands, band after band. Returns false if the taker has stopped.
+///
+/// As many bands at a time go over their planes side by side as are predicted at once, or as there is room for the planes
+/// of: `room` may have any length.
+pub(crate) fn send_bands<T: Taker>(
+    cube: &Cube,
+    params: &Params,
+    bands: &mut [Band],
+    room: &mut [u16],
+    taker: &mut T,
+) -> bool
+    requires image { IsSeen params.now cube.now }
+    requires at { AreAt params.now cube.now 0 bands.old }
+    requires may { T.may taker.old (flat_map (λ z. rows_of params.now cube.now (z ∷ [])) (bands_of bands.old)) }
+    ensures sent { T.takes taker.old taker.new result (flat_map (λ z. rows_of params.now cube.now (z ∷ [])) (bands_of bands.old)) }
+{
+    let shape = cube.shape();
+    let plane = shape.rows() as usize * shape.columns() as usize;
+    let most = GROUP.min(1 + room.len() / plane);
+    let mut group = GroupRoom::new();
+    let mut first = 0;
+    while first < bands.len() {
+        let count = most.min(bands.len() - first);
+        if !send_next_planes(
+            cube,
+            params,
+            &mut bands[first..first + count],
+            room,
+            &mut group,
+            taker,
+        ) {
+            return false;
+        }
+        first += count;
+    }
+    true
+}
+
+/// Does the same for one band or more, which go over their planes side by side: all planes but the first are kept until that
+/// one was sent.
+fn send_next_planes<T: Taker>(
+    cube: &Cube,
+    params: &Params,
+    bands: &mut [Band],
+    room: &mut [u16],
+    group: &mut GroupRoom,
+    taker: &mut T,
+) -> bool
+    requires image { IsSeen params.now cube.now }
+    requires some { 1 ≤ length bands.old }
+    requires room { (length bands.old - 1) * (cube.now.shape.rows * cube.now.shape.columns) ≤ length room.old }
+    requires at { AreAt params.now cube.now 0 bands.old }
+    requires may { T.may taker.old (flat_map (λ z. rows_of params.now cube.now (z ∷ [])) (bands_of bands.old)) }
+    ensures sent { T.takes taker.old taker.new result (flat_map (λ z. rows_of params.now cube.now (z ∷ [])) (bands_of bands.old)) }
+    ensures same { bands_of bands.new ≡ bands_of bands.old }
+{
+    let shape = cube.shape();
+    let columns = shape.columns() as usize;
+    let plane = shape.rows() as usize * columns;
+    for y in 0..shape.rows() {
+        let start = y as usize * columns;
+        if !send_first_row(cube, params, y, start, plane, bands, room, group, taker) {
+            return false;
+        }
+    }
+    taker.take(&room[..(bands.len() - 1) * plane])
+}

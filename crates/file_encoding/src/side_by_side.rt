@@ -1,0 +1,73 @@
+//! Bands that go over a row side by side: the first one's residuals are sent, and those of the others are kept.
+
+ghost use Rattle.std.specs.Prelude.{◌≡◌, ℕ, ◌+◌, ◌*◌, ◌-◌, ◌<◌, ◌≤◌, ◌∷◌, [], ◌++◌, length, take, slice_index_or, IsTrue};
+ghost use Rattle.predict_core.specs.Following.{PredictorState};
+ghost use Rattle.file_encoding.specs.Own.{row_of};
+ghost use Rattle.file_encoding.specs.Pieces.{row_start};
+ghost use Rattle.file_encoding.specs.Walks.{IsSeen, AreAt, bands_of};
+
+use crate::pieces::predict_pieces;
+use crate::taker::Taker;
+use crate::walk::PIECE;
+use cube_core::cube::Cube;
+use header_bits::params::Params;
+use predict_core::band::Band;
+use predict_core::group::room::GroupRoom;
+
+/// Sends the residuals of the first of some bands in row `y`, and keeps those of the others. Returns false if the taker has
+/// stopped.
+///
+/// Each of the others has a stretch of the room, of `stretch` numbers, band after band; its residuals are written there
+/// from number `start` on.
+pub(crate) fn send_first_row<T: Taker>(
+    cube: &Cube,
+    params: &Params,
+    y: u32,
+    start: usize,
+    stretch: usize,
+    bands: &mut [Band],
+    room: &mut [u16],
+    group: &mut GroupRoom,
+    taker: &mut T,
+) -> bool
+    requires image { IsSeen params.now cube.now }
+    requires row { y < cube.now.shape.rows }
+    requires some { 1 ≤ length bands.old }
+    requires inside { start + cube.now.shape.columns ≤ stretch }
+    requires room { (length bands.old - 1) * stretch ≤ length room.old }
+    requires at { AreAt params.now cube.now (y * cube.now.shape.columns) bands.old }
+    requires may { T.may taker.old (row_of params.now cube.now (slice_index_or (bands_of bands.old) 0 0 ∷ []) y) }
+    ensures sent { T.takes taker.old taker.new result (row_of params.now cube.now (slice_index_or (bands_of bands.old) 0 0 ∷ []) y) }
+    ensures kept { IsTrue result → (k : ℕ) → k + 1 < length bands.old → row_start stretch k (start + cube.now.shape.columns) room.new
+        ≡ row_start stretch k start room.old ++ row_of params.now cube.now (slice_index_or (bands_of bands.old) (k + 1) 0 ∷ []) y }
+    ensures at { IsTrue result → AreAt params.now cube.now ((y + 1) * cube.now.shape.columns) bands.new }
+    ensures same { bands_of bands.new ≡ bands_of bands.old }
+{
+    let columns = cube.shape().columns();
+    let mut x = 0;
+    while x < columns {
+        let count = PIECE.min(columns - x);
+        predict_pieces(cube, params, y, x, count, bands, group);
+        if !taker.take(bands[0].piece_residuals(count as usize)) {
+            return false;
+        }
+        keep_pieces(start + x as usize, count as usize, stretch, bands, room);
+        x += count;
+    }
+    true
+}
+
+/// Keeps the residuals that all bands but the first hold of `count` places, in the stretch of each from number `first` on.
+fn keep_pieces(first: usize, count: usize, stretch: usize, bands: &[Band], room: &mut [u16])
+    requires piece { count ≤ 64 }
+    requires inside { first + count ≤ stretch }
+    requires some { 1 ≤ length bands.now }
+    requires room { (length bands.now - 1) * stretch ≤ length room.old }
+    ensures { (k : ℕ) (b : PredictorState) → k + 1 < length bands.now
+        → row_start stretch k (first + count) room.new ≡ row_start stretch k first room.old ++ take count (slice_index_or bands.now (k + 1) b).piece }
+{
+    for k in 0..bands.len() - 1 {
+        let start = k * stretch + first;
+        room[start..start + count].copy_from_slice(bands[k + 1].piece_residuals(count));
+    }
+}
