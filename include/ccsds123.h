@@ -22,8 +22,8 @@
  *     says. Such a pointer may be null where that number is 0;
  *   - nothing that a call writes overlaps anything else that it is given.
  * There is no state between calls: any number of threads may call at once. Memory comes from malloc, two bytes for each sample, and
- * where a scene is coded its file, too; it is given back before a call returns. No call may be made from a signal handler, nor in the
- * forked child of a process with threads. */
+ * where a scene is coded its file, too, and by band up to seven planes, if they can be had; it is given back before a call returns. No
+ * call may be made from a signal handler, nor in the forked child of a process with threads. */
 #ifndef CCSDS123_H
 #define CCSDS123_H
 

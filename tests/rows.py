@@ -3,10 +3,10 @@
 
     tests/rows.py [SEED [COUNT [PROGRAM]]]
 
-SEED alone determines COUNT sets of parameters and samples: cubes of one column or row, of 2, 9, 63, 64, 65 or 129 columns, up to 15
-previous bands, both modes and sums, registers that wrap and registers that don't, all orders, both coders. The body of each file has to
-equal the one that the plain Rust program of bench/ makes, byte for byte, and `expand` has to restore the raw bytes. SEED defaults to 1 and
-COUNT to 500. `make rows` builds both programs first.
+SEED alone determines COUNT sets of parameters and samples: cubes of 1, 2 or up to 129 columns, where pieces begin and end, of 1 to 20 or 65
+bands, up to 15 previous bands, both modes and sums, registers that wrap and registers that don't, all orders, both coders. In about half of
+the sets lanes of 16 bits are exact. The body of each file has to equal the one that the plain Rust program of bench/ makes, byte for byte,
+and `expand` has to restore the raw bytes. SEED defaults to 1 and COUNT to 500. `make rows` builds both programs first.
 """
 
 import os
@@ -21,14 +21,15 @@ from harness import PROGRAM, TOP, Room, samples_of
 PLAIN = os.path.join(TOP, "bench", "target", "release", "plain")
 HEADER = 19
 """The length of a header without tables, in bytes."""
-COLUMNS = (1, 2, 9, 63, 64, 65, 129)
+COLUMNS = (1, 2, 7, 8, 9, 15, 16, 17, 63, 64, 65, 127, 128, 129)
+BANDS = (*range(1, 21), 65)
 
 
 def image_of(chance):
     """Returns columns, rows, bands, bits, 1 for signed samples, and the interleaving depth, or 0 for sequential order."""
-    columns, rows, bands = chance.choice(COLUMNS), chance.choice((1, 2, 5)), chance.choice((1, 2, 5, 17, 65))
+    columns, rows, bands = chance.choice(COLUMNS), chance.choice((1, 2, 5)), chance.choice(BANDS)
     depth = chance.choice((0, 1, bands, chance.randint(1, bands)))
-    return [columns, rows, bands, chance.randint(2, 16), chance.randint(0, 1), depth]
+    return [columns, rows, bands, chance.choice((chance.randint(2, 12), chance.randint(2, 16))), chance.randint(0, 1), depth]
 
 
 def predictor_of(chance, columns, bits):
@@ -40,6 +41,9 @@ def predictor_of(chance, columns, bits):
     least = max(32, bits + omega + 2)
     register = chance.choice((least, least, chance.randint(least, 64), 64))
     exponents = sorted(chance.randint(-6, 9) for _ in range(2))
+    if bits <= 12 and chance.random() < 0.7:
+        omega, register = chance.randint(4, 13), chance.randint(46, 64)
+        exponents = sorted(chance.randint(max(-6, omega - 14), min(9, omega + 13 - bits)) for _ in range(2))
     reduced, column = (1 if alone else chance.randint(0, 1) for _ in range(2))
     return [chance.randint(0, 15), reduced, column, register, omega, chance.randint(4, 11), *exponents]
 
