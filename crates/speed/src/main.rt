@@ -10,10 +10,10 @@ mod block_coder;
 mod collected;
 mod cube;
 mod files;
-mod lanes;
 mod pipeline;
 mod predictor;
 mod report;
+mod ring_lanes;
 mod sample_coder;
 mod synthetic;
 
@@ -48,7 +48,7 @@ fn measure_all<R: Threads + Wait + Sync>(rt: &R, report: &Report) -> Result<()> 
     sample_coder::measure(report)?;
     block_coder::measure(report)?;
     files::measure(report)?;
-    lanes::measure(rt, report)?;
+    ring_lanes::measure(rt, report)?;
     pipeline::measure(rt, report)
 }
 
@@ -60,7 +60,7 @@ fn measure<R: Threads + Wait + Sync>(rt: &R, report: &Report, subject: &str) -> 
         "sample_coder" => sample_coder::measure(report),
         "block_coder" => block_coder::measure(report),
         "files" => files::measure(report),
-        "lanes" => lanes::measure(rt, report),
+        "lanes" => ring_lanes::measure(rt, report),
         "pipeline" => pipeline::measure(rt, report),
         _ => Ok(()),
     }

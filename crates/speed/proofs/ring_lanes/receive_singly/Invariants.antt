@@ -1,6 +1,6 @@
 use Rattle.std.proofs.Common.{◌≡◌, ◌+◌, ◌-◌}
 use Rattle.speed.specs.Numbers.{checksum}
-use Rattle.speed.proofs.lanes.receive_singly.Given as goal
+use Rattle.speed.proofs.ring_lanes.receive_singly.Given as goal
 
 abbrev pub invariant-loop-received : goal.invariant-loop-received
 invariant-loop-received l = (l.receiver.lane ≡ l.fn.receiver.lane) × (l.sum ≡ checksum l.receiver.received)

@@ -1,5 +1,5 @@
 use Rattle.std.proofs.Common.{◌≡◌, ◌+◌, ◌-◌, ◌≤◌, length, take}
-use Rattle.speed.proofs.lanes.send_in_runs.Given as goal
+use Rattle.speed.proofs.ring_lanes.send_in_runs.Given as goal
 
 abbrev pub invariant-loop-sent : goal.invariant-loop-sent
 invariant-loop-sent l = (l.sender.lane ≡ l.fn.sender.lane) × (l.sender.sent ≡ take l.sent l.numbers) × (l.sent ≤ length l.numbers)
