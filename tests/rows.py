@@ -42,7 +42,7 @@ def predictor_of(chance, columns, bits):
     register = chance.choice((least, least, chance.randint(least, 64), 64))
     exponents = sorted(chance.randint(-6, 9) for _ in range(2))
     if bits <= 12 and chance.random() < 0.7:
-        omega, register = chance.randint(4, 13), chance.randint(46, 64)
+        omega, register = chance.randint(4, 13), chance.randint(32, 64)
         exponents = sorted(chance.randint(max(-6, omega - 14), min(9, omega + 13 - bits)) for _ in range(2))
     reduced, column = (1 if alone else chance.randint(0, 1) for _ in range(2))
     return [chance.randint(0, 15), reduced, column, register, omega, chance.randint(4, 11), *exponents]

@@ -63,7 +63,7 @@ lane_filled q b s v c y x count own pairs l fits cube few is next narrow enough 
   inside = next.inside;
   few = few;
   enough = rw counted enough;
-  register = rw is.predictor narrow.register;
+  register = rw (is.predictor, counted) (narrow.register v.band);
   omega_in = rw is.predictor narrow.omega_in;
   bits = narrow.bits_in;
   central = λ i m n. rw (is.predictor, is.band) (own_is i (within i m) ∙ lines.own i m n);

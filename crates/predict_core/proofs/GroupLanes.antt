@@ -1,6 +1,6 @@
 -- One place of a band's chain in its lane.
 use Rattle.std.proofs.Common.{◌≡◌, ℕ, zero, suc, ◌+◌, ◌-◌, ◌*◌, ◌^◌, ◌<◌, ◌≤◌, ℤ, pos, ◌+ℤ◌, ◌-ℤ◌, ◌*ℤ◌, ◌≤ℤ◌, int_le, unsigned_abs, Bool, List, [], ◌∷◌, false}
-use Rattle.std.proofs.Common.{◌++◌, length, take, set, replicate, refl, sym, ap, ap₂, ◌∙◌, arith, pow_mono, length-append}
+use Rattle.std.proofs.Common.{◌++◌, length, take, set, replicate, refl, sym, ap, ap₂, ◌∙◌, arith, pow_mono, lt_of_lt_of_le, length-append}
 use Rattle.std.proofs.lemmas.Int.{ints, clamps}
 use Rattle.std.proofs.lemmas.List.{take_all, length-replicate, map-set}
 use Rattle.std.proofs.lemmas.Nat.{pow_pos}
@@ -21,14 +21,14 @@ use Rattle.sample_prediction.specs.Differences.{central_difference, difference_v
 use Rattle.sample_prediction.specs.LocalSum.{local_sum}
 use Rattle.sample_prediction.specs.Prediction.{inner_product, scaled_there, scaled_prediction, next_weights}
 use Rattle.sample_prediction.specs.Weights.{growth, step_exponent, updated_weights, updated_weight, weight_min, weight_max}
-use Rattle.sample_prediction.proofs.Floors.{kept, floor_low, floor_high, below_power}
+use Rattle.sample_prediction.proofs.Floors.{kept, floor_low, floor_high}
 use Rattle.sample_prediction.proofs.Spans.{span}
 use Rattle.sample_prediction.specs.Mapping.{Between}
 use Rattle.sample_prediction.proofs.Inner.{within_take}
 use Rattle.sample_prediction.proofs.Padding.{vector_length}
 use Rattle.sample_prediction.proofs.Predicted.{of_product}
 use Rattle.sample_prediction.proofs.Prefixes.{product_in_use, update_in_use}
-use Rattle.predict_core.proofs.Largest.{register_small}
+use Rattle.predict_core.proofs.Largest.{sum_counted}
 use Rattle.predict_core.proofs.Links.{next_by_difference}
 use Rattle.predict_core.proofs.Ranges.{sum_within}
 use Rattle.predict_core.proofs.Runs.{written_place, weights_next, part_is}
@@ -116,10 +116,9 @@ module _ (q b : ℕ) (s : Settings) (c : Image) (y x count i : ℕ) (own : List 
       ≡ inner_product (take s.count ws) us +ℤ pos (2 ^ s.predictor.omega) *ℤ (sum -ℤ pos 4 *ℤ smid c.kind)
   unwrapped =
       let r = there.register in
-      let small = register_small s.predictor c s.band y (x + i) (take s.count ws) there.cube place later wide s.lawful.few (let h = there.omega_in in omega (arith, h))
+      let small = sum_counted s.predictor c s.band y (x + i) (take s.count ws) there.cube place later wide s.lawful.few (let h = there.omega_in in omega (arith, h))
       used_within in
-      kept s.predictor.register _ (omega (arith, r)) (below_power 45 (s.predictor.register - 1)
-      (inner_product (take s.count ws) us +ℤ pos (2 ^ s.predictor.omega) *ℤ (sum -ℤ pos 4 *ℤ smid c.kind)) (omega (arith, r)) small)
+      kept s.predictor.register _ (let some = s.lawful.register.0 in omega (arith, some)) (lt_of_lt_of_le small (rw (← s.count_is) r))
 
   -- the scaled prediction comes from the part
   pub lane_scaled : scaled_there s.predictor c s.band y (x + i) (take s.count ws) ≡ scaled_by_difference c.kind part sum

@@ -1,11 +1,11 @@
 -- The sum that the register takes is small.
 use Rattle.std.proofs.Common.{◌≡◌, ◌+◌, ◌-◌, ◌*◌, ◌^◌, ◌<◌, ◌≤◌, ℕ, zero, suc, ℤ, pos, ◌+ℤ◌, ◌-ℤ◌, ◌*ℤ◌, ◌≤ℤ◌, neg_ℤ, unsigned_abs, Bool, true, false, List, []}
-use Rattle.std.proofs.Common.{inl, inr, ◌∷◌, replicate, length, if◌then◌else◌, arith, refl, sym, ap, ◌∙◌, le_trans}
-use Rattle.std.proofs.lemmas.Int.{ints}
+use Rattle.std.proofs.Common.{inl, inr, ◌∷◌, replicate, length, if◌then◌else◌, arith, refl, sym, ap, ◌∙◌, le_trans, lt_of_le_of_lt, subst}
+use Rattle.std.proofs.lemmas.Int.{ints, unsigned_abs-mul}
 use Rattle.std.proofs.lemmas.Bool.{cases_Bool}
 use Rattle.std.proofs.lemmas.Nat.{mul-le, pow_pos}
 use Rattle.std.proofs.Math.Pow.{pow_mono, pow-add}
-use Rattle.cube_core.specs.Kind.{smin, smid, smax}
+use Rattle.cube_core.specs.Kind.{SampleKind, smin, smid, smax}
 use Rattle.cube_core.specs.Image.{Image, IsCube, IsPlace}
 use Rattle.header_bits.specs.declared.params.Params.{Params}
 use Rattle.header_bits.specs.declared.params.WeightStart.{WeightStart}
@@ -20,7 +20,7 @@ use Rattle.sample_prediction.specs.Weights.{weight_min, weight_max, eighths, def
 use Rattle.sample_prediction.specs.Prediction.{inner_product, next_weights, weight_vector}
 use Rattle.sample_prediction.specs.Mapping.{Between}
 use Rattle.sample_prediction.specs.Bounds.{AllWithin}
-use Rattle.predict_core.specs.Largest.{RegisterBound}
+use Rattle.predict_core.specs.Largest.{RegisterBound, CountedBound, greatest_sum, register_sum}
 use Rattle.sample_prediction.proofs.Moves.{clipped_low, clipped_high, limit_within, within_most}
 use Rattle.sample_prediction.proofs.Padding.{vector_length}
 use Rattle.sample_prediction.proofs.Raising.{raised_bound}
@@ -106,6 +106,32 @@ middle_between false bits some =
 swapped : (a b : ℤ) (n : ℕ) → unsigned_abs (a -ℤ b) ≤ n → unsigned_abs (b -ℤ a) ≤ n
 swapped a b n h = omega (arith, ints, h)
 
+product_within : (n m : ℕ) (w u : ℤ) → unsigned_abs w ≤ n → unsigned_abs u ≤ m → unsigned_abs (w *ℤ u) ≤ n * m
+product_within n m w u h k = rw (unsigned_abs-mul w u) (mul-le (unsigned_abs w) (unsigned_abs u) n m h k)
+
+-- a sum of as many products as there are components
+products_counted : (n m : ℕ) (ws us : List ℤ) → AllWithin n ws → AllWithin m us → unsigned_abs (inner_product ws us) ≤ length us * (n * m)
+unfolding inner_product
+products_counted n m [] us h k = omega arith
+products_counted n m (w ∷ ws) [] h k = omega arith
+products_counted n m (w ∷ ws) (u ∷ us) h k =
+    let product = product_within n m w u (h 0 (omega arith)) (k 0 (omega arith)) in
+    let rest = products_counted n m ws us (λ i l. h (suc i) (omega (arith, l))) (λ i l. k (suc i) (omega (arith, l))) in omega (arith, ints, product, rest)
+
+-- with a number added that is smaller than a product
+counted : (a b : ℤ) (n p : ℕ) → unsigned_abs a ≤ n * p → unsigned_abs b < p → unsigned_abs (a +ℤ b) < (n + 1) * p
+counted a b n p h k = omega (arith, ints, h, k)
+
+-- the powers of both
+raised_power : (f d : ℕ) → 2 ^ (f + 2) * 2 ^ (d + 2) ≡ 2 ^ (f + d + 4)
+raised_power f d = sym (pow-add 2 (f + 2) (d + 2)) ∙ ap (λ k. 2 ^ k) (omega arith)
+
+added_power : (f d : ℕ) → 2 ^ f * 2 ^ (d + 2) < 2 ^ (f + d + 4)
+added_power f d =
+    let e : 2 ^ f * 2 ^ (d + 2) ≡ 2 ^ (f + d + 2) = sym (pow-add 2 f (d + 2)) ∙ ap (λ k. 2 ^ k) (omega arith) in
+    let s : 2 ^ (f + d + 4) ≡ 2 ^ (f + d + 2) * 2 ^ 2 = ap (λ k. 2 ^ k) (omega arith) ∙ pow-add 2 (f + d + 2) 2 in
+    let some = pow_pos (f + d + 2) in omega (arith, e, s, some)
+
 both_small : (a b : ℤ) (n : ℕ) → n ≤ 2 ^ 21 → unsigned_abs a ≤ 18 * (n * 2 ^ 18) → unsigned_abs b ≤ 2 ^ 37 → unsigned_abs (a +ℤ b) < 2 ^ 45
 both_small a b n most h k = omega (arith, ints, h, k)
 
@@ -132,6 +158,21 @@ module _ (q : Predictor) (c : Image) (z y x : ℕ) (ws : List ℤ) (cube : IsCub
       both_small (inner_product ws (difference_vector q c z y x)) (pos (2 ^ q.omega) *ℤ (local_sum q c z y x -ℤ pos 4 *ℤ smid c.kind)) (2 ^ (q.omega + 2))
       (limit_within q.omega most) products_small (raised_bound q.omega (local_sum q c z y x -ℤ pos 4 *ℤ smid c.kind) most small)
 
+  pub sum_counted : unsigned_abs (inner_product ws (difference_vector q c z y x) +ℤ pos (2 ^ q.omega) *ℤ (local_sum q c z y x -ℤ pos 4 *ℤ smid c.kind))
+      < greatest_sum q.omega c.kind.bits (component_count q z)
+  sum_counted =
+      let us : List ℤ = difference_vector q c z y x in let four : 2 ^ (c.kind.bits + 2) ≡ 2 ^ c.kind.bits * 2 ^ 2 = pow-add 2 c.kind.bits 2 in
+      let vector : AllWithin (2 ^ (c.kind.bits + 2)) us = λ i l. let v = vector_within q c cube y x later wide z place i l in omega (arith, four, v) in
+      let products = products_counted (2 ^ (q.omega + 2)) (2 ^ (c.kind.bits + 2)) ws us within vector in
+      let near = apart (smin c.kind) (smax c.kind) (smid c.kind) (local_sum q c z y x) (2 ^ c.kind.bits) (span c.kind cube.bits)
+      (middle_between c.kind.signed c.kind.bits cube.bits.0) (sum_within q c cube y x later wide z place) in
+      let small = swapped (pos 4 *ℤ smid c.kind) (local_sum q c z y x) (2 ^ (c.kind.bits + 2)) (omega (arith, near, four)) in
+      let added = product_within (2 ^ q.omega) (2 ^ (c.kind.bits + 2)) (pos (2 ^ q.omega)) (local_sum q c z y x -ℤ pos 4 *ℤ smid c.kind) (omega arith) small in
+      let room = added_power q.omega c.kind.bits in
+      counted (inner_product ws us) (pos (2 ^ q.omega) *ℤ (local_sum q c z y x -ℤ pos 4 *ℤ smid c.kind)) (component_count q z)
+      (2 ^ (q.omega + c.kind.bits + 4)) (rw (sym (vector_length q c z y x), sym (raised_power q.omega c.kind.bits)) products)
+      (lt_of_le_of_lt added room)
+
 -- and by those of a cube
 pub products_within : (p : Params) (c : Image) (z y x : ℕ) → IsLawful p → IsCube c → c.shape ≡ p.shape → IsPlace c.shape z y x → 0 < y + x
     → unsigned_abs (inner_product (weight_vector p c z (y * c.shape.columns + x)) (difference_vector (predictor_of p) c z y x))
@@ -144,3 +185,9 @@ pub register_bound : RegisterBound
 register_bound p c z y x lawful cube shape kind place later =
     register_small (predictor_of p) c z y x (weight_vector p c z (y * c.shape.columns + x)) cube place later
     (wide_of p c lawful shape) lawful.previous lawful.omega.1 (weights_within p c z (y * c.shape.columns + x) lawful)
+
+pub counted_bound : CountedBound
+counted_bound p c z y x lawful cube shape kind place later =
+    subst (λ bits. unsigned_abs (register_sum p c z y x) < greatest_sum p.omega bits (component_count (predictor_of p) z)) (ap (λ (k : SampleKind). k.bits) kind)
+    (sum_counted (predictor_of p) c z y x (weight_vector p c z (y * c.shape.columns + x)) cube place later
+    (wide_of p c lawful shape) lawful.previous lawful.omega.1 (weights_within p c z (y * c.shape.columns + x) lawful))

@@ -6,13 +6,14 @@ use Rattle.band_lanes.specs.declared.pairs.Pairs.{Pairs}
 use Rattle.band_lanes.specs.Rows.{weights_of, components_of}
 use Rattle.predict_core.specs.declared.settings.Settings.{Settings}
 use Rattle.predict_core.specs.Following.{PredictorState}
+use Rattle.predict_core.specs.Largest.{NeverWraps}
 use Rattle.sample_prediction.specs.Bounds.{AllWithin}
 use Rattle.sample_prediction.specs.Predictor.{component_count}
 use Rattle.sample_prediction.specs.declared.predictor.Predictor.{Predictor}
 use Rattle.sample_prediction.specs.Differences.{central_difference, difference_vector}
 
 -- lane b holds d and U of a band for each of the `count` places from row y, column x on, except at t = 0, U in the first q pairs with zeros after it;
--- 16 bits are enough for them, and a register of so many bits never wraps
+-- 16 bits are enough for them, and the register never wraps
 pub record IsLane (q b : ℕ) (s : Settings) (c : Image) (y x count : ℕ) (own : List (List ℤ)) (pairs : List Pairs) : Type 0 where
   pub cube : IsCube c
   pub place : IsPlace c.shape s.band y x
@@ -21,7 +22,7 @@ pub record IsLane (q b : ℕ) (s : Settings) (c : Image) (y x count : ℕ) (own 
   pub inside : x + count ≤ c.shape.columns
   pub few : q ≤ 9
   pub enough : s.count ≤ 2 * q
-  pub register : 46 ≤ s.predictor.register
+  pub register : NeverWraps s.predictor c.kind.bits s.count
   pub omega_in : s.predictor.omega ≤ 13
   pub bits : c.kind.bits ≤ 12
   pub central : (i : ℕ) → i < count → 0 < y + (x + i) → lane (slice_index_or own i []) b ≡ central_difference s.predictor c s.band y (x + i)
@@ -31,7 +32,7 @@ pub record IsLane (q b : ℕ) (s : Settings) (c : Image) (y x count : ℕ) (own 
 -- lanes of 16 bits are exact for a predictor of samples of so many bits: for the weights, for the components, and for components times or over a step's
 -- power of two; and the register never wraps
 pub record IsNarrow (p : Predictor) (bits : ℕ) : Type 0 where
-  pub register : 46 ≤ p.register
+  pub register : (z : ℕ) → NeverWraps p bits (component_count p z)
   pub omega_in : p.omega ≤ 13
   pub bits_in : bits ≤ 12
   pub least : pos p.omega ≤ℤ (p.vmin +ℤ pos 14)

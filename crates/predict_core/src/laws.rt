@@ -1,7 +1,7 @@
 //! Laws over the definitions alone.
 
 ghost use Rattle.sample_prediction.specs.ErrorSign.{DifferenceBound, ErrorSign, UnwrappedPrediction};
-ghost use Rattle.predict_core.specs.Largest.{RegisterBound};
+ghost use Rattle.predict_core.specs.Largest.{RegisterBound, CountedBound};
 ghost use Rattle.sample_prediction.specs.Mapping.{OneSample};
 ghost use Rattle.predict_core.specs.Precedence.{PlacesPrecede};
 
@@ -20,6 +20,11 @@ pub fn places_precede()
 /// The number that goes into the register has an absolute value below 2^45.
 pub fn register_bound()
     ensures { RegisterBound }
+{}
+
+/// The number that goes into the register has an absolute value below (C + 1)·2^(Ω+D+4), for C components.
+pub fn counted_bound()
+    ensures { CountedBound }
 {}
 
 /// A predicted central difference has an absolute value of at most 18·2^20.

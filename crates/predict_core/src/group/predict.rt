@@ -7,6 +7,7 @@ ghost use Rattle.predict_core.specs.Following.{HoldsPiece};
 ghost use Rattle.predict_core.specs.GroupLanes.{IsNarrow};
 ghost use Rattle.predict_core.specs.GroupPieces.{ArePiecesNext};
 ghost use Rattle.predict_core.specs.GroupRooms.{AreReady};
+ghost use Rattle.predict_core.specs.Largest.{NeverWraps};
 
 use crate::band::{Band, first_spectral};
 use crate::group::room::GroupRoom;
@@ -81,11 +82,28 @@ fn is_narrow(settings: &Settings) -> bool
 {
     let predictor = &settings.predictor;
     let (omega, bits) = (predictor.omega as i32, settings.range.bits as i32);
-    predictor.register >= 46
+    never_wraps(settings)
         && omega <= 13
         && bits <= 12
         && omega <= predictor.vmin + 14
         && predictor.vmax + bits <= omega + 13
+}
+
+/// Returns whether the register has room for the greatest sum that a band with the most components can make.
+fn never_wraps(settings: &Settings) -> bool
+    ensures { result ≡ true → (z : ℕ) → NeverWraps settings.now.predictor settings.now.range.bits (component_count settings.now.predictor z) }
+{
+    let predictor = &settings.predictor;
+    let count = most_components(settings) as u64;
+    (count + 1) << (predictor.omega + settings.range.bits + 4) <= 1 << (predictor.register - 1)
+}
+
+/// Returns how many components a band has that uses all previous bands.
+fn most_components(settings: &Settings) -> usize
+    ensures few { result ≤ 18 }
+    ensures most { (z : ℕ) → component_count settings.now.predictor z ≤ result }
+{
+    first_spectral(settings.predictor.reduced) + settings.predictor.previous as usize
 }
 
 /// Returns how many pairs hold the components of any band.
@@ -93,8 +111,7 @@ fn pairs_of(settings: &Settings) -> usize
     ensures few { result ≤ 9 }
     ensures enough { (z : ℕ) → component_count settings.now.predictor z ≤ 2 * result }
 {
-    let most = first_spectral(settings.predictor.reduced) + settings.predictor.previous as usize;
-    (most + 1) / 2
+    (most_components(settings) + 1) / 2
 }
 
 /// Advances the bands side by side, by the form for a number of pairs, and returns whether 16 bits hold their weights. If not, no
