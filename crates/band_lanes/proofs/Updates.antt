@@ -10,26 +10,26 @@ use Rattle.sample_prediction.specs.Arithmetic.{floor_div, clip}
 use Rattle.sample_prediction.specs.Weights.{step, signed_by, weight_min, weight_max, updated_weight}
 use Rattle.band_lanes.proofs.Floors.{halved_is, opposite}
 
-not_le : (a b : ℤ) → int_lt b a ≡ true → int_le a b ≡ false
+pub not_le : (a b : ℤ) → int_lt b a ≡ true → int_le a b ≡ false
 not_le a b h = grind (arith, ints)
 
-is_le : (a b : ℤ) → int_lt b a ≡ false → int_le a b ≡ true
+pub is_le : (a b : ℤ) → int_lt b a ≡ false → int_le a b ≡ true
 is_le a b h = grind (arith, ints)
 
 -- a step to the nearest, halves down
-nearest : (a : ℤ) (r : ℕ) → floor_div (neg_ℤ a +ℤ (pos (2 ^ r) -ℤ pos 1)) (2 ^ (r + 1)) ≡ neg_ℤ (step (pos r) a)
+pub nearest : (a : ℤ) (r : ℕ) → floor_div (neg_ℤ a +ℤ (pos (2 ^ r) -ℤ pos 1)) (2 ^ (r + 1)) ≡ neg_ℤ (step (pos r) a)
 unfolding step
 nearest a r =
     let double : 2 ^ (r + 1) ≡ 2 ^ r * 2 = ap (λ k. 2 ^ k) (add-one r) ∙ pow-suc 2 r in rw double (opposite a (2 ^ r) (pow_pos r))
 
-times_negative : (a : ℤ) (n : ℕ) → a *ℤ neg_ℤ (pos n) ≡ neg_ℤ (a *ℤ pos n)
+pub times_negative : (a : ℤ) (n : ℕ) → a *ℤ neg_ℤ (pos n) ≡ neg_ℤ (a *ℤ pos n)
 times_negative (pos a) zero = omega (arith, ints)
 times_negative (pos zero) (suc n) = omega (arith, ints)
 times_negative (pos (suc a)) (suc n) = omega (arith, ints)
 times_negative (negsuc a) zero = omega (arith, ints)
 times_negative (negsuc a) (suc n) = omega (arith, ints)
 
-negative_times : (a : ℤ) (n : ℕ) → a *ℤ pos n ≡ neg_ℤ (neg_ℤ a *ℤ pos n)
+pub negative_times : (a : ℤ) (n : ℕ) → a *ℤ pos n ≡ neg_ℤ (neg_ℤ a *ℤ pos n)
 negative_times (pos zero) n = omega (arith, ints)
 negative_times (pos (suc a)) zero = omega (arith, ints)
 negative_times (pos (suc a)) (suc n) = omega (arith, ints)

@@ -1,3 +1,4 @@
+pub mod Fours
 pub mod Rows
 pub mod Sums
 pub mod Updates

@@ -3,6 +3,7 @@
 #![tactic(auto)]
 
 pub mod follow;
+pub mod four;
 pub mod pairs;
 mod predicted;
 pub mod step;

@@ -2,3 +2,4 @@ pub mod Numbers
 pub mod Ranges
 pub mod Steps
 pub mod Turning
+pub mod TurningFour

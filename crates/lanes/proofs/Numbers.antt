@@ -1,5 +1,5 @@
 -- The number that a step makes, where what it asks is kept.
-use Rattle.std.proofs.Common.{ℕ, suc, ◌+◌, ◌-◌, ◌*◌, ◌%◌, ◌^◌, ◌<◌, ℤ, pos, negsuc, ◌+ℤ◌, ◌-ℤ◌, ◌*ℤ◌, ◌≤ℤ◌, unsigned_abs, ◌≡◌, refl, sym, ap, ◌∙◌, arith, to_z, of_z, SFits, w16, w32, bit_and, bit_xor}
+use Rattle.std.proofs.Common.{ℕ, suc, ◌+◌, ◌-◌, ◌*◌, ◌%◌, ◌^◌, ◌<◌, ℤ, pos, negsuc, ◌+ℤ◌, ◌-ℤ◌, ◌*ℤ◌, ◌≤ℤ◌, unsigned_abs, ◌≡◌, refl, sym, ap, ◌∙◌, arith, to_z, of_z, SFits, w16, w32, w64, bit_and, bit_xor}
 use Rattle.std.specs.Int.{int_rem_euclid}
 use Rattle.std.specs.Int.Signed.{shr_z, mag_shr}
 use Rattle.std.specs.Int.Bits.{xor_zero_r, xor_add_and}
@@ -30,6 +30,19 @@ pub wide_difference_is : (x y : ℤ) → SFits w16 x → SFits w16 y → to_z w3
 wide_difference_is x y f g =
     wrapping_sub_is w32 x y (in_wide x f) (in_wide y g) ∙ int_wrap_fits w32 (x -ℤ y) (fits_signed_from_abs w32 (x -ℤ y) (omega (arith, ints, f.sfits, g.sfits)))
 
+pub difference_is : (w : Width) (x y : ℤ) → SFits w x → SFits w y → unsigned_abs (x -ℤ y) < 2 ^ hbits w
+    → to_z w ((of_z w x + (2 ^ bits w - of_z w y)) % 2 ^ bits w) ≡ x -ℤ y
+difference_is w x y f g h = wrapping_sub_is w x y f g ∙ int_wrap_fits w (x -ℤ y) (fits_signed_from_abs w (x -ℤ y) h)
+
+in_long : (x : ℤ) → SFits w32 x → SFits w64 x
+in_long x f = record { sfits = (let h = f.sfits in omega arith) }
+
+pub long_product_is : (x y : ℤ) → SFits w32 x → SFits w32 y → to_z w64 ((of_z w64 x * of_z w64 y) % 2 ^ 64) ≡ x *ℤ y
+long_product_is x y f g =
+    let p = f.sfits in let q = g.sfits in
+    wrapping_mul_is w64 x y (in_long x f) (in_long y g)
+    ∙ int_wrap_fits w64 (x *ℤ y) (fits_signed_mul w64 x y (2 ^ 31) (2 ^ 31) (omega (arith, ints)) (omega (arith, ints)) (omega arith))
+
 -- a shift to the right rounds down
 floor_of_shift : (x : ℤ) (by : ℕ) → shr_z x (2 ^ by) ≡ halved x by
 floor_of_shift (pos a) by = refl
@@ -56,6 +69,21 @@ flipped_is (negsuc a) f =
     let l : a < 2 ^ 15 = omega (arith, ints, f.sfits) in
     let m : 65535 - (65536 - suc a) ≡ a = omega arith in
     ap (to_z w16) (ones (65536 - suc a) (omega arith) ∙ m) ∙ to_z_pos w16 a l ∙ omega (arith, ints)
+
+ones_long : (n : ℕ) → n < 2 ^ 32 → bit_xor n 4294967295 ≡ 4294967295 - n
+ones_long n h = omega (arith, xor_add_and n 4294967295, and_mask n 32)
+
+pub not_flipped_long : (x : ℤ) → SFits w32 x → to_z w32 (bit_xor (of_z w32 x) 0) ≡ x
+not_flipped_long x f = ap (to_z w32) (xor_zero_r (of_z w32 x)) ∙ to_z-of_z w32 x f
+
+pub flipped_long_is : (x : ℤ) → SFits w32 x → to_z w32 (bit_xor (of_z w32 x) 4294967295) ≡ negsuc 0 -ℤ x
+flipped_long_is (pos a) f =
+    let l : a < 2 ^ 31 = omega (arith, ints, f.sfits) in
+    ap (to_z w32) (ones_long a (omega arith) ∙ omega arith) ∙ to_z-neg w32 a l ∙ omega (arith, ints)
+flipped_long_is (negsuc a) f =
+    let l : a < 2 ^ 31 = omega (arith, ints, f.sfits) in
+    let m : 4294967295 - (4294967296 - suc a) ≡ a = omega arith in
+    ap (to_z w32) (ones_long (4294967296 - suc a) (omega arith) ∙ m) ∙ to_z_pos w32 a l ∙ omega (arith, ints)
 
 -- the lowest bits
 pub rest_of : (x : ℤ) (by : ℕ) → SFits w32 x → by < 31 → pos (of_z w32 x % 2 ^ by) ≡ int_rem_euclid x (pos (2 ^ by))

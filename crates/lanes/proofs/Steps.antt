@@ -170,6 +170,12 @@ pub picked_beyond : (w : Width) (a b : List ℤ) (places : List ℕ) (n k i : �
 picked_beyond w a b places n k i l m fits within e h =
     get_or-map (λ j. to_z w (get_or (map (of_z w) a ++ map (of_z w) b) j 0)) places k 0 (pos 0) within ∙ at_second w a b n i (get_or places k 0) l m fits h e
 
+-- what holds of each of two
+pub two : (P : ℕ → Type 0) → P 0 → P 1 → (k : ℕ) → k < 2 → P k
+two P a b zero l = a
+two P a b (suc zero) l = b
+two P a b (suc (suc k)) l = absurd (omega arith)
+
 -- what holds of each of eight
 pub eight : (P : ℕ → Type 0) → P 0 → P 1 → P 2 → P 3 → P 4 → P 5 → P 6 → P 7 → (k : ℕ) → k < 8 → P k
 eight P a b c d e f g h zero l = a

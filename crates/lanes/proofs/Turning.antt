@@ -17,12 +17,12 @@ chunk_of_eight (suc n) (suc i) xs h =
 
 -- ---- a run of elements that are written one by one
 
-put_nothing : {X : Type 0} (i : ℕ) (xs : List X) → put_chunk i xs [] ≡ xs
+pub put_nothing : {X : Type 0} (i : ℕ) (xs : List X) → put_chunk i xs [] ≡ xs
 put_nothing i [] = refl
 put_nothing zero (x ∷ xs) = refl
 put_nothing (suc i) (x ∷ xs) = ap (λ l. x ∷ l) (put_nothing i xs)
 
-one_more : {X : Type 0} (i : ℕ) (xs ys : List X) (y : X) (j : ℕ) → j ≡ i + length ys → j < length xs → set (put_chunk i xs ys) j y ≡ put_chunk i xs (ys ++ (y ∷ []))
+pub one_more : {X : Type 0} (i : ℕ) (xs ys : List X) (y : X) (j : ℕ) → j ≡ i + length ys → j < length xs → set (put_chunk i xs ys) j y ≡ put_chunk i xs (ys ++ (y ∷ []))
 one_more i [] ys y j e h = absurd (omega arith)
 one_more zero (x ∷ xs) [] y zero e h = ap (λ l. y ∷ l) (sym (put_nothing zero xs))
 one_more zero (x ∷ xs) [] y (suc j) e h = absurd (omega arith)

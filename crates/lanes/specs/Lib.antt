@@ -1,2 +1,3 @@
 pub mod Lanes
 pub mod Turning
+pub mod TurningFour

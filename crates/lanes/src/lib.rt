@@ -5,7 +5,9 @@
 //! `packssdw` in `wide::held` and `psubsw` in `narrow::held_difference`.
 #![tactic(auto)]
 
+pub mod four;
 pub mod narrow;
 pub mod turn;
+pub mod turn_four;
 pub mod wide;
 mod widths;

@@ -1,0 +1,6 @@
+//! The predictors of four bands in step, in lanes of 32 bits: for samples and weights that lanes of 16 bits don't hold.
+
+pub mod follow;
+mod predicted;
+pub mod step;
+mod update;

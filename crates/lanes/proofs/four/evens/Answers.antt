@@ -1,0 +1,10 @@
+use Rattle.std.proofs.Common.{◌*◌, ◌≡◌, refl, arith, w32, ◌∷◌, [], get_or}
+use Rattle.lanes.proofs.Ranges.{vector}
+use Rattle.lanes.proofs.Steps.{two, picked}
+use Rattle.lanes.proofs.four.evens.Goals as goal
+
+pub returns : goal.returns
+returns c k within =
+    let a = vector w32 4 c.args.a _ c.well_formed.0 in
+    let at = two (λ j. get_or (0 ∷ 2 ∷ []) j 0 ≡ 2 * j) refl refl k within in
+    picked w32 c.args.a c.args.a (0 ∷ 2 ∷ []) 4 k (2 * k) a.0 a.1 within at (omega arith)
