@@ -75,10 +75,10 @@ long_enough fraction v most h =
     let few : fraction + 2 ≤ 21 = omega (arith, most) in let power : 2 ^ (fraction + 2) ≤ 2 ^ 21 = pow_mono few in omega (arith, h, power)
 
 -- and 32 bits their quotients
-pub quotient_in : (fraction : ℕ) (v : ℤ) → unsigned_abs v ≤ 18 * (2 ^ (fraction + 2) * 2 ^ 18) → unsigned_abs (halved v fraction) < 2 ^ 31
+pub quotient_in : (fraction : ℕ) (v : ℤ) → unsigned_abs v ≤ 18 * (2 ^ (fraction + 2) * 2 ^ 18) → unsigned_abs (halved v fraction) ≤ 18 * 2 ^ 20
 quotient_in fraction v h =
     let e : 2 ^ (fraction + 2) ≡ 2 ^ fraction * 2 ^ 2 = pow-add 2 fraction 2 in
-    let q = floor_within v (18 * 2 ^ 20) (2 ^ fraction) (pow_pos fraction) (omega (arith, e, h)) in rw (halved_is v fraction) (omega (arith, q))
+    rw (halved_is v fraction) (floor_within v (18 * 2 ^ 20) (2 ^ fraction) (pow_pos fraction) (omega (arith, e, h)))
 
 -- ---- their update
 

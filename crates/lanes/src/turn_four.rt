@@ -44,35 +44,37 @@ pub fn turn_four(
 ///
 /// The compiler makes vectors of this loop.
 #[inline(never)]
-pub fn turn_four_back(
-    rows: &[[i32; 4]; 64],
-    first: &mut [i32; 64],
-    second: &mut [i32; 64],
-    third: &mut [i32; 64],
-    fourth: &mut [i32; 64],
-)
-    ensures first { (i : ℕ) → i < 64 → lane first.new i ≡ place rows.now i 0 }
-    ensures second { (i : ℕ) → i < 64 → lane second.new i ≡ place rows.now i 1 }
-    ensures third { (i : ℕ) → i < 64 → lane third.new i ≡ place rows.now i 2 }
-    ensures fourth { (i : ℕ) → i < 64 → lane fourth.new i ≡ place rows.now i 3 }
+pub fn turn_four_back(rows: &[[i32; 4]; 64], lines: &mut [[i32; 64]; 4])
+    ensures { (i b : ℕ) → i < 64 → b < 4 → place lines.new b i ≡ place rows.now i b }
 {
     for i in 0..64usize {
-        put_lane(&rows[i], 0, i, first);
-        put_lane(&rows[i], 1, i, second);
-        put_lane(&rows[i], 2, i, third);
-        put_lane(&rows[i], 3, i, fourth);
+        put_lane(&rows[i], 0, i, lines);
+        put_lane(&rows[i], 1, i, lines);
+        put_lane(&rows[i], 2, i, lines);
+        put_lane(&rows[i], 3, i, lines);
     }
 }
 
-/// Writes number `b` of a row to place `i` of a line.
+/// Writes number `b` of a row to place `i` of line `b`.
 #[inline(always)]
-fn put_lane(row: &[i32; 4], b: usize, i: usize, line: &mut [i32; 64])
+fn put_lane(row: &[i32; 4], b: usize, i: usize, lines: &mut [[i32; 64]; 4])
     requires lane { b < 4 }
     requires place { i < 64 }
-    ensures here { lane line.new i ≡ lane row.now b }
+    ensures here { place lines.new b i ≡ lane row.now b }
+    ensures places { (k j : ℕ) → j ≢ i → place lines.new k j ≡ place lines.old k j }
+    ensures lines { (k j : ℕ) → k ≢ b → place lines.new k j ≡ place lines.old k j }
+{
+    set_place(row[b], i, &mut lines[b]);
+}
+
+/// Writes place `i` of a line.
+#[inline(always)]
+fn set_place(number: i32, i: usize, line: &mut [i32; 64])
+    requires { i < 64 }
+    ensures here { lane line.new i ≡ number }
     ensures others { (k : ℕ) → k ≢ i → lane line.new k ≡ lane line.old k }
 {
-    line[i] = row[b];
+    line[i] = number;
 }
 
 /// Returns the four numbers of a line from place 4k on.

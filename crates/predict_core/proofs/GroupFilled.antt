@@ -37,7 +37,7 @@ all_at P xs h i x e = subst P (get_or_from_slice_get xs i x x e) (all_get P xs h
 -- ---- the vector of a lane
 
 -- entries after a list's end are zeros, as they are told
-padded_at : (us : List ℤ) (m k : ℕ) → get_or (us ++ replicate m (pos 0)) k (pos 0) ≡ get_or us k (pos 0)
+pub padded_at : (us : List ℤ) (m k : ℕ) → get_or (us ++ replicate m (pos 0)) k (pos 0) ≡ get_or us k (pos 0)
 padded_at us m k = elim (cases_lt k (length us)) [
   | inl l ↦ get_or_append_left us (replicate m (pos 0)) (pos 0) k l
   | inr l ↦ get_or-append_right us (replicate m (pos 0)) (length us) k (pos 0) refl l ∙ none m (k - length us) ∙ sym (get_or_past us k (pos 0) l)

@@ -56,7 +56,7 @@ held_scaled k sum part is few h =
 
 -- ---- updated weights
 
-updated_short : (f : ℕ) (e : ℤ) (n : Bool) (ws us : List ℤ) → length (updated_weights f e n ws us) ≤ length ws
+pub updated_short : (f : ℕ) (e : ℤ) (n : Bool) (ws us : List ℤ) → length (updated_weights f e n ws us) ≤ length ws
 unfolding updated_weights
 updated_short f e n [] us = omega arith
 updated_short f e n (w ∷ ws) [] = omega arith

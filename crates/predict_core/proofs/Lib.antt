@@ -21,6 +21,7 @@ pub mod OpenLines
 pub mod Ranges
 pub mod Told
 pub mod Largest
+pub mod LongLanes
 pub mod ErrorSigns
 pub mod Borders
 pub mod RunSteps

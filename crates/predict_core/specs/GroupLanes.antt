@@ -7,6 +7,9 @@ use Rattle.band_lanes.specs.Rows.{weights_of, components_of}
 use Rattle.predict_core.specs.declared.settings.Settings.{Settings}
 use Rattle.predict_core.specs.Following.{PredictorState}
 use Rattle.predict_core.specs.Largest.{NeverWraps}
+use Rattle.predict_core.specs.LongRows.{row_components}
+use Rattle.predict_core.specs.declared.group.long.rows.Rows.{Rows}
+use Rattle.band_lanes.specs.Fours.{column_of}
 use Rattle.sample_prediction.specs.Bounds.{AllWithin}
 use Rattle.sample_prediction.specs.Predictor.{component_count}
 use Rattle.sample_prediction.specs.declared.predictor.Predictor.{Predictor}
@@ -29,6 +32,20 @@ pub record IsLane (q b : ℕ) (s : Settings) (c : Image) (y x count : ℕ) (own 
   pub vector : (i : ℕ) → i < count → 0 < y + (x + i)
       → components_of q b pairs i ≡ difference_vector s.predictor c s.band y (x + i) ++ replicate (2 * q - s.count) (pos 0)
 
+-- the same in lanes of 32 bits, of four bands: U in the first 2·q rows
+pub record IsLongLane (q b : ℕ) (s : Settings) (c : Image) (y x count : ℕ) (own : List (List ℤ)) (rows : List Rows) : Type 0 where
+  pub cube : IsCube c
+  pub place : IsPlace c.shape s.band y x
+  pub columns : c.shape.columns ≡ s.columns
+  pub kind : c.kind ≡ s.range.kind
+  pub inside : x + count ≤ c.shape.columns
+  pub few : q ≤ 9
+  pub enough : s.count ≤ 2 * q
+  pub register : NeverWraps s.predictor c.kind.bits s.count
+  pub central : (i : ℕ) → i < count → 0 < y + (x + i) → lane (slice_index_or own i []) b ≡ central_difference s.predictor c s.band y (x + i)
+  pub vector : (i : ℕ) → i < count → 0 < y + (x + i)
+      → row_components (2 * q) b rows i ≡ difference_vector s.predictor c s.band y (x + i) ++ replicate (2 * q - s.count) (pos 0)
+
 -- lanes of 16 bits are exact for a predictor of samples of so many bits: for the weights, for the components, and for components times or over a step's
 -- power of two; and the register never wraps
 pub record IsNarrow (p : Predictor) (bits : ℕ) : Type 0 where
@@ -43,3 +60,9 @@ pub record HasWeights (q b : ℕ) (s : PredictorState) (rows : List (List ℤ)) 
   pub long : length s.weights ≡ component_count s.predictor s.band
   pub used : length s.weights ≤ 2 * q → take (length s.weights) (weights_of q b rows) ≡ s.weights
   pub within : AllWithin (2 ^ (s.predictor.omega + 2)) (weights_of q b rows)
+
+-- lane b of the first 2·q rows holds them too
+pub record HasLongWeights (q b : ℕ) (s : PredictorState) (rows : List (List ℤ)) : Type 0 where
+  pub long : length s.weights ≡ component_count s.predictor s.band
+  pub used : length s.weights ≤ 2 * q → take (length s.weights) (column_of (2 * q) b rows) ≡ s.weights
+  pub within : AllWithin (2 ^ (s.predictor.omega + 2)) (column_of (2 * q) b rows)

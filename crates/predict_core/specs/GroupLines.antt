@@ -5,6 +5,7 @@ use Rattle.cube_core.specs.Kind.{smin}
 use Rattle.cube_core.specs.Image.{Image}
 use Rattle.lanes.specs.Lanes.{place}
 use Rattle.predict_core.specs.declared.group.band_lines.BandLines.{BandLines}
+use Rattle.predict_core.specs.declared.group.long.lines.LongLines.{LongLines}
 use Rattle.sample_prediction.specs.declared.predictor.Predictor.{Predictor}
 use Rattle.sample_prediction.specs.LocalSum.{local_sum}
 use Rattle.sample_prediction.specs.Differences.{central_difference, directional_differences, difference_vector}
@@ -48,6 +49,28 @@ HoldsComponents n p c z y x count lines =
 
 -- the lines of band z hold what its samples and those of the previous bands tell, with n components
 pub record AreBandsLines (n : ℕ) (p : Predictor) (z : ℕ) (c : Image) (y x count : ℕ) (l : BandLines) : Type 0 where
+  pub band : l.band ≡ z
+  pub sums : HoldsSums p c z y x count l.sums
+  pub own : HoldsCentral p c z y x count l.own
+  pub components : HoldsComponents n p c z y x count l.components
+
+-- ---- in lines of 32 bits, which hold all of it
+
+-- a number is four times an offset less a local sum
+abbrev pub IsLongDifference : ℕ → ℤ → ℤ → Type 0
+IsLongDifference offset sum difference = pos 0 ≤ℤ sum → difference ≡ pos (4 * offset) -ℤ sum
+
+-- no lines
+abbrev pub no_long_lines : LongLines
+no_long_lines = record { band = 0; sums = []; own = []; components = [] }
+
+-- lines of several bands hold the central differences of each
+abbrev pub HoldLongCentrals : Predictor → Image → ℕ → ℕ → ℕ → List LongLines → Type 0
+HoldLongCentrals p c y x count ls =
+    (j : ℕ) → j < length ls → HoldsCentral p c (slice_index_or ls j no_long_lines).band y x count (slice_index_or ls j no_long_lines).own
+
+-- the lines of band z hold what its samples and those of the previous bands tell, with n components
+pub record AreLongLines (n : ℕ) (p : Predictor) (z : ℕ) (c : Image) (y x count : ℕ) (l : LongLines) : Type 0 where
   pub band : l.band ≡ z
   pub sums : HoldsSums p c z y x count l.sums
   pub own : HoldsCentral p c z y x count l.own

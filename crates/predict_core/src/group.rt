@@ -5,6 +5,7 @@ pub(crate) mod chain;
 pub(crate) mod fill;
 pub(crate) mod finish;
 pub(crate) mod lines;
+pub(crate) mod long;
 pub(crate) mod mapping;
 pub(crate) mod pairs;
 pub mod predict;

@@ -1,6 +1,6 @@
 //! From the weights of four bands at one place to those at the next.
 
-ghost use Rattle.std.specs.Prelude.{◌≡◌, ◌+◌, ◌*◌, ◌^◌, ◌<◌, ◌≤◌, ℕ, true, false, pos, negsuc, ◌≤ℤ◌, int_le};
+ghost use Rattle.std.specs.Prelude.{◌≡◌, ◌+◌, ◌*◌, ◌^◌, ◌<◌, ◌≤◌, ℕ, true, false, pos, negsuc, ◌≤ℤ◌, int_le, unsigned_abs};
 ghost use Rattle.lanes.specs.Lanes.{lane};
 ghost use Rattle.sample_prediction.specs.Arithmetic.{floor_div};
 ghost use Rattle.sample_prediction.specs.Bounds.{AllWithin};
@@ -18,7 +18,7 @@ use std::simd::prelude::*;
 ///
 /// The first 2·`Q` weights and components are used: a row of weights has one weight of each band, and a row of components one
 /// component of each. `own` are the central differences there. Each component has a size of at most 2^(D+2), and each weight is in
-/// its range. `RAISED` says whether ρ is negative (CCSDS 123.0-B-1, "Prediction Calculation", "Weight Update").
+/// its range; so each difference has a size of at most 18·2^20. `RAISED` says whether ρ is negative (CCSDS 123.0-B-1, "Prediction Calculation", "Weight Update").
 #[inline(always)]
 pub fn follow_four<const Q: usize, const RAISED: bool>(
     weights: &mut [[i32; 4]; MOST_COMPONENTS],
@@ -33,6 +33,7 @@ pub fn follow_four<const Q: usize, const RAISED: bool>(
     requires lowered { RAISED ≡ false → pos 0 ≤ℤ step.exponent }
     ensures predicted { (b : ℕ) → b < 4 → lane result b
         ≡ floor_div (inner_product (column_of (2 * Q) b weights.old) (column_of (2 * Q) b components.now)) (2 ^ step.omega) }
+    ensures bound { (b : ℕ) → b < 4 → unsigned_abs (lane result b) ≤ 18 * 2 ^ 20 }
     ensures weights { (b : ℕ) → b < 4 → column_of (2 * Q) b weights.new ≡ updated_weights step.omega step.exponent (int_le (lane own.now b) (lane result b))
         (column_of (2 * Q) b weights.old) (column_of (2 * Q) b components.now) }
 {

@@ -32,7 +32,8 @@ pub(crate) fn predicted<const Q: usize>(
     requires omega_in { omega ≤ 19 }
     requires weights_in { (b : ℕ) → b < 4 → AllWithin (2 ^ (omega + 2)) (column_of (2 * Q) b weights.now) }
     requires components_in { (b : ℕ) → b < 4 → AllWithin (2 ^ 18) (column_of (2 * Q) b components.now) }
-    ensures { (b : ℕ) → b < 4 → lane result b ≡ floor_div (inner_product (column_of (2 * Q) b weights.now) (column_of (2 * Q) b components.now)) (2 ^ omega) }
+    ensures value { (b : ℕ) → b < 4 → lane result b ≡ floor_div (inner_product (column_of (2 * Q) b weights.now) (column_of (2 * Q) b components.now)) (2 ^ omega) }
+    ensures bound { (b : ℕ) → b < 4 → unsigned_abs (lane result b) ≤ 18 * 2 ^ 20 }
 {
     let mut even = i64x2::splat(0);
     let mut odd = i64x2::splat(0);

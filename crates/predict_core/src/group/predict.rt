@@ -8,8 +8,11 @@ ghost use Rattle.predict_core.specs.GroupLanes.{IsNarrow};
 ghost use Rattle.predict_core.specs.GroupPieces.{ArePiecesNext};
 ghost use Rattle.predict_core.specs.GroupRooms.{AreReady};
 ghost use Rattle.predict_core.specs.Largest.{NeverWraps};
+ghost use Rattle.predict_core.specs.LongRooms.{AreLongReady};
 
 use crate::band::{Band, first_spectral};
+use crate::group::long::room::LongRoom;
+use crate::group::long::side_by_side::predict_side_by_side as predict_long;
 use crate::group::room::GroupRoom;
 use crate::group::side_by_side::predict_side_by_side;
 use crate::settings::Settings;
@@ -24,8 +27,8 @@ const LEAST_PLACES: usize = 16;
 ///
 /// The bands are 1 to 8, all with the same parameters, and `count` is at most 64. The first of these places is the next one
 /// of each band, row `y`, column `x`, and all of them are in that row. The cube has the shape and kind of the parameters.
-/// For each band this does what `predict_piece` does (CCSDS 123.0-B-1, "Predictor"). Where lanes of 16 bits are exact for
-/// the parameters, the bands go side by side, and else two at a time.
+/// For each band this does what `predict_piece` does (CCSDS 123.0-B-1, "Predictor"). Where no register of the bands can wrap they go
+/// side by side, in lanes of 16 bits if these are exact for the parameters and else of 32, and otherwise two at a time.
 pub fn predict_group(
     bands: &mut [Band],
     cube: &Cube,
@@ -38,13 +41,59 @@ pub fn predict_group(
     requires next { ArePiecesNext bands.old cube.now y x count }
     ensures held { AllZip (HoldsPiece cube.now count) bands.old bands.new }
 {
-    if bands.len() >= LEAST_BANDS && count >= LEAST_PLACES {
-        let (narrow, pairs) = lanes_of(&bands[0]);
-        if narrow && predict_by(bands, cube, y, x, count, pairs, room) {
-            return;
-        }
+    if bands.len() >= LEAST_BANDS
+        && count >= LEAST_PLACES
+        && predict_in_lanes(bands, cube, y, x, count, room)
+    {
+        return;
     }
     predict_in_pairs(bands, cube, y, x, count);
+}
+
+/// Advances the bands side by side, in the shortest lanes that are exact for them, and returns whether there are any. If not, no band
+/// is advanced.
+fn predict_in_lanes(
+    bands: &mut [Band],
+    cube: &Cube,
+    y: u32,
+    x: u32,
+    count: usize,
+    room: &mut GroupRoom,
+) -> bool
+    requires few { (4 ≤ length bands.old) × (length bands.old ≤ 8) }
+    requires some { 1 ≤ count }
+    requires next { ArePiecesNext bands.old cube.now y x count }
+    ensures held { result ≡ true → AllZip (HoldsPiece cube.now count) bands.old bands.new }
+    ensures kept { result ≡ false → bands.new ≡ bands.old }
+{
+    let (narrow, pairs) = lanes_of(&bands[0]);
+    if narrow && predict_by(bands, cube, y, x, count, pairs, room) {
+        return true;
+    }
+    predict_in_long_lanes(bands, cube, y, x, count, room)
+}
+
+/// Advances the bands side by side in lanes of 32 bits, and returns whether these are exact for them. If not, no band is advanced.
+fn predict_in_long_lanes(
+    bands: &mut [Band],
+    cube: &Cube,
+    y: u32,
+    x: u32,
+    count: usize,
+    room: &mut GroupRoom,
+) -> bool
+    requires few { (4 ≤ length bands.old) × (length bands.old ≤ 8) }
+    requires some { 1 ≤ count }
+    requires next { ArePiecesNext bands.old cube.now y x count }
+    ensures held { result ≡ true → AllZip (HoldsPiece cube.now count) bands.old bands.new }
+    ensures kept { result ≡ false → bands.new ≡ bands.old }
+{
+    let (long, pairs) = long_lanes_of(&bands[0]);
+    if !long {
+        return false;
+    }
+    predict_by_long(bands, cube, y, x, count, pairs, &mut room.long);
+    true
 }
 
 /// Advances the bands two at a time.
@@ -74,6 +123,16 @@ fn lanes_of(band: &Band) -> (bool, usize)
     ensures enough { (z : ℕ) → component_count band.now.predictor z ≤ 2 * result.1 }
 {
     (is_narrow(&band.settings), pairs_of(&band.settings))
+}
+
+/// Returns whether lanes of 32 bits are exact for a band's parameters, and how many pairs hold the components.
+fn long_lanes_of(band: &Band) -> (bool, usize)
+    ensures register { result.0 ≡ true → (z : ℕ) → NeverWraps band.now.predictor band.now.kind.bits (component_count band.now.predictor z) }
+    ensures wide { band.now.predictor.column ≡ false → 2 ≤ band.now.shape.columns }
+    ensures few { result.1 ≤ 9 }
+    ensures enough { (z : ℕ) → component_count band.now.predictor z ≤ 2 * result.1 }
+{
+    (never_wraps(&band.settings), pairs_of(&band.settings))
 }
 
 /// Returns whether lanes of 16 bits are exact for some parameters.
@@ -142,5 +201,34 @@ fn predict_by(
         7 => predict_side_by_side::<7>(bands, cube, y, x, count, room),
         8 => predict_side_by_side::<8>(bands, cube, y, x, count, room),
         _ => predict_side_by_side::<9>(bands, cube, y, x, count, room),
+    }
+}
+
+/// Advances the bands side by side in lanes of 32 bits, by the form for a number of pairs.
+#[tactic(auto, using(crate::proofs::LongLanes::long_ready_more))]
+fn predict_by_long(
+    bands: &mut [Band],
+    cube: &Cube,
+    y: u32,
+    x: u32,
+    count: usize,
+    pairs: usize,
+    room: &mut LongRoom,
+)
+    requires pairs { pairs ≤ 9 }
+    requires few { (4 ≤ length bands.old) × (length bands.old ≤ 8) }
+    requires ready { AreLongReady pairs bands.old cube.now y x count }
+    ensures { AllZip (HoldsPiece cube.now count) bands.old bands.new }
+{
+    match pairs {
+        0 | 1 => predict_long::<1>(bands, cube, y, x, count, room),
+        2 => predict_long::<2>(bands, cube, y, x, count, room),
+        3 => predict_long::<3>(bands, cube, y, x, count, room),
+        4 => predict_long::<4>(bands, cube, y, x, count, room),
+        5 => predict_long::<5>(bands, cube, y, x, count, room),
+        6 => predict_long::<6>(bands, cube, y, x, count, room),
+        7 => predict_long::<7>(bands, cube, y, x, count, room),
+        8 => predict_long::<8>(bands, cube, y, x, count, room),
+        _ => predict_long::<9>(bands, cube, y, x, count, room),
     }
 }

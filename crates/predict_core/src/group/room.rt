@@ -1,13 +1,14 @@
 //! Room for what a piece of eight bands needs.
 
 use crate::group::band_lines::BandLines;
+use crate::group::long::room::LongRoom;
 use crate::group::pairs::Scratch;
 use band_lanes::pairs::{MOST_PAIRS, Pairs, Turned};
 use sample_prediction::predictor::MOST_COMPONENTS;
 
 /// Room for what is computed of a piece of eight bands.
 ///
-/// It takes some 50 KB, so it is made once and used for one piece after another. What it holds between them has no meaning.
+/// It takes some 110 KB, so it is made once and used for one piece after another. What it holds between them has no meaning.
 #[derive(Clone, Copy)]
 pub struct GroupRoom {
     pub(crate) bands: [BandLines; 8],
@@ -17,6 +18,7 @@ pub struct GroupRoom {
     pub(crate) weights: [[i16; 16]; MOST_PAIRS],
     pub(crate) rows: [[i16; 8]; 64],
     pub(crate) parts: [[i16; 64]; 8],
+    pub(crate) long: LongRoom,
 }
 
 impl GroupRoom {
@@ -46,6 +48,7 @@ impl GroupRoom {
             weights: [[0; 16]; MOST_PAIRS],
             rows: [[0; 8]; 64],
             parts: [[0; 64]; 8],
+            long: LongRoom::new(),
         }
     }
 }

@@ -1,4 +1,4 @@
-use Rattle.std.proofs.Common.{◌≡◌, ℕ, zero, suc, List, replicate, ◌+◌, ◌*◌, ◌^◌, ◌<◌, ◌≤◌, ℤ, pos, ◌+ℤ◌, ◌*ℤ◌, unsigned_abs, ◌∙◌, [], length, refl, sym, ap, subst, arith, map, to_z, get_or, w64, w32}
+use Rattle.std.proofs.Common.{◌≡◌, ℕ, zero, suc, List, replicate, ◌+◌, ◌*◌, ◌^◌, ◌<◌, ◌≤◌, ℤ, pos, ◌+ℤ◌, ◌*ℤ◌, unsigned_abs, ◌∙◌, [], length, refl, sym, ap, subst, arith, map, to_z, of_z, get_or, w64, w32}
 use Rattle.lanes.specs.Lanes.{lane, halved}
 use Rattle.lanes.proofs.Ranges.{vector}
 use Rattle.lanes.proofs.Steps.{kept, two}
@@ -9,7 +9,7 @@ use Rattle.band_lanes.proofs.Floors.{halved_is}
 use Rattle.band_lanes.proofs.Fours.{column_less, products_none, products_more, products_in, long_enough, quotient_in}
 use Rattle.band_lanes.proofs.four.predicted.predicted.Given as given
 use Rattle.band_lanes.proofs.four.predicted.predicted.Goals as goal
-use Rattle.band_lanes.proofs.four.predicted.predicted.Goals.{After-loop-c}
+use Rattle.band_lanes.proofs.four.predicted.predicted.Goals.{After-loop-c, After-quotients}
 
 abbrev zeros : List ℤ
 zeros = replicate 2 (pos 0)
@@ -66,7 +66,7 @@ module _ (g : given.Over) (c : After-loop-c g) where
       ∙ ap (λ n. inner_product (column_of n (2 * k + 1) c.args.weights.now) (column_of n (2 * k + 1) c.args.components.now)) done
 
   fits : (b : ℕ) → b < 4
-      → unsigned_abs (halved (inner_product (column_of (2 * g.row.Q) b c.args.weights.now) (column_of (2 * g.row.Q) b c.args.components.now)) c.args.omega) < 2 ^ 31
+      → unsigned_abs (halved (inner_product (column_of (2 * g.row.Q) b c.args.weights.now) (column_of (2 * g.row.Q) b c.args.components.now)) c.args.omega) ≤ 18 * 2 ^ 20
   fits b l = quotient_in c.args.omega (inner_product (column_of (2 * g.row.Q) b c.args.weights.now) (column_of (2 * g.row.Q) b c.args.components.now))
       (part_in c.args.omega (2 * g.row.Q) (2 * g.row.Q) b c.args.weights.now c.args.components.now (omega arith) (let few = c.requires.few in omega (arith, few))
       c.told-weights c.told-components (c.requires.weights_in b l) (c.requires.components_in b l))
@@ -74,23 +74,36 @@ module _ (g : given.Over) (c : After-loop-c g) where
 pub quotients-requires-clause-evens_fit : goal.quotients-requires-clause-evens_fit
 quotients-requires-clause-evens_fit g c k l =
     let d = (goal.at.quotients-requires-clause-evens_fit g c).After-loop-c in
-    subst (λ v. unsigned_abs (halved v c.args.omega) < 2 ^ 31) (sym (even_is g d k l)) (fits g d (2 * k) (omega (arith, l)))
+    let small = fits g d (2 * k) (omega (arith, l)) in subst (λ v. unsigned_abs (halved v c.args.omega) < 2 ^ 31) (sym (even_is g d k l)) (omega (arith, small))
 
 pub quotients-requires-clause-odds_fit : goal.quotients-requires-clause-odds_fit
 quotients-requires-clause-odds_fit g c k l =
     let d = (goal.at.quotients-requires-clause-odds_fit g c).After-loop-c in
-    subst (λ v. unsigned_abs (halved v c.args.omega) < 2 ^ 31) (sym (odd_is g d k l)) (fits g d (2 * k + 1) (omega (arith, l)))
+    let small = fits g d (2 * k + 1) (omega (arith, l)) in subst (λ v. unsigned_abs (halved v c.args.omega) < 2 ^ 31) (sym (odd_is g d k l)) (omega (arith, small))
 
-pub returns : goal.returns
-returns g c b l =
-    let d = (goal.at.returns g c).After-loop-c in let r = vector w32 4 c.quotients.result _ c.quotients.type_inv in
-    kept w32 c.quotients.result b r.1 ∙ at b l
+module _ (g : given.Over) (c : After-quotients g) (even : (k : ℕ) → k < 2 → lane (map (to_z w64) c.loop-c.even) k
+    ≡ inner_product (column_of (2 * g.row.Q) (2 * k) c.args.weights.now) (column_of (2 * g.row.Q) (2 * k) c.args.components.now))
+    (odd : (k : ℕ) → k < 2 → lane (map (to_z w64) c.loop-c.odd) k
+    ≡ inner_product (column_of (2 * g.row.Q) (2 * k + 1) c.args.weights.now) (column_of (2 * g.row.Q) (2 * k + 1) c.args.components.now)) where
+  at : (b : ℕ) → b < 4 → lane c.quotients.result b
+      ≡ halved (inner_product (column_of (2 * g.row.Q) b c.args.weights.now) (column_of (2 * g.row.Q) b c.args.components.now)) c.args.omega
+  at zero l = c.quotients.ensures.even 0 (omega arith) ∙ ap (λ v. halved v c.args.omega) (even 0 (omega arith))
+  at (suc zero) l = c.quotients.ensures.odd 0 (omega arith) ∙ ap (λ v. halved v c.args.omega) (odd 0 (omega arith))
+  at (suc (suc zero)) l = c.quotients.ensures.even 1 (omega arith) ∙ ap (λ v. halved v c.args.omega) (even 1 (omega arith))
+  at (suc (suc (suc zero))) l = c.quotients.ensures.odd 1 (omega arith) ∙ ap (λ v. halved v c.args.omega) (odd 1 (omega arith))
+  at (suc (suc (suc (suc k)))) l = absurd (omega (arith, l))
+
+  told : (b : ℕ) → b < 4 → lane (map (to_z w32) (map (of_z w32) c.quotients.result)) b
+      ≡ halved (inner_product (column_of (2 * g.row.Q) b c.args.weights.now) (column_of (2 * g.row.Q) b c.args.components.now)) c.args.omega
+  told b l = let r = vector w32 4 c.quotients.result _ c.quotients.type_inv in kept w32 c.quotients.result b r.1 ∙ at b l
+
+pub returns-clause-value : goal.returns-clause-value
+returns-clause-value g c b l =
+    told g (goal.at.returns-clause-value g c).After-quotients (even_is g (goal.at.returns-clause-value g c).After-loop-c)
+    (odd_is g (goal.at.returns-clause-value g c).After-loop-c) b l
     ∙ halved_is (inner_product (column_of (2 * g.row.Q) b c.args.weights.now) (column_of (2 * g.row.Q) b c.args.components.now)) c.args.omega
-  where
-    at : (b : ℕ) → b < 4 → lane c.quotients.result b
-        ≡ halved (inner_product (column_of (2 * g.row.Q) b c.args.weights.now) (column_of (2 * g.row.Q) b c.args.components.now)) c.args.omega
-    at zero l = c.quotients.ensures.even 0 (omega arith) ∙ ap (λ v. halved v c.args.omega) (even_is g (goal.at.returns g c).After-loop-c 0 (omega arith))
-    at (suc zero) l = c.quotients.ensures.odd 0 (omega arith) ∙ ap (λ v. halved v c.args.omega) (odd_is g (goal.at.returns g c).After-loop-c 0 (omega arith))
-    at (suc (suc zero)) l = c.quotients.ensures.even 1 (omega arith) ∙ ap (λ v. halved v c.args.omega) (even_is g (goal.at.returns g c).After-loop-c 1 (omega arith))
-    at (suc (suc (suc zero))) l = c.quotients.ensures.odd 1 (omega arith) ∙ ap (λ v. halved v c.args.omega) (odd_is g (goal.at.returns g c).After-loop-c 1 (omega arith))
-    at (suc (suc (suc (suc k)))) l = absurd (omega (arith, l))
+
+pub returns-clause-bound : goal.returns-clause-bound
+returns-clause-bound g c b l =
+    subst (λ v. unsigned_abs v ≤ 18 * 2 ^ 20) (sym (told g (goal.at.returns-clause-bound g c).After-quotients
+    (even_is g (goal.at.returns-clause-bound g c).After-loop-c) (odd_is g (goal.at.returns-clause-bound g c).After-loop-c) b l)) (fits g (goal.at.returns-clause-bound g c).After-loop-c b l)

@@ -1,0 +1,11 @@
+use Rattle.std.proofs.Common.{◌≡◌, ◌+◌, ◌<◌, ℕ, slice_index_or, length}
+use Rattle.lanes.specs.Lanes.{place}
+use Rattle.predict_core.specs.GroupLines.{no_long_lines}
+use Rattle.predict_core.specs.LongRows.{no_rows}
+use Rattle.predict_core.proofs.group.long.rows.fill_rows.Given as goal
+
+abbrev pub invariant-loop-k : goal.invariant-loop-k
+invariant-loop-k g l = record {
+  done : (k i b : ℕ) → k < l.k → i < 64 → b < 4 → place (slice_index_or l.rows k no_rows).places i b ≡ place (slice_index_or l.bands (l.from + b) no_long_lines).components k i;
+  long : length l.rows ≡ 18;
+}
