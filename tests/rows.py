@@ -5,8 +5,9 @@
 
 SEED alone determines COUNT sets of parameters and samples: cubes of 1, 2 or up to 129 columns, where pieces begin and end, of 1 to 20 or 65
 bands, up to 15 previous bands, both modes and sums, registers that wrap and registers that don't, all orders, both coders. In about half of
-the sets lanes of 16 bits are exact. The body of each file has to equal the one that the plain Rust program of bench/ makes, byte for byte,
-and `expand` has to restore the raw bytes. SEED defaults to 1 and COUNT to 500. `make rows` builds both programs first.
+the sets lanes of 16 bits are exact, and in many others those of 32. The body of each file has to equal the one that the plain Rust program of
+bench/ makes, byte for byte, and `expand` has to restore the raw bytes. SEED defaults to 1 and COUNT to 500. `make rows` builds both programs
+first.
 """
 
 import os
