@@ -1,6 +1,6 @@
 use Rattle.std.proofs.Common.{◌≡◌, ℕ, ◌<◌, pos, length, slice_index, slice_index_or}
 use Rattle.predict_core.specs.GroupLines.{IsLongDifference}
-use Rattle.predict_core.proofs.group.long.lines.fill_differences.Given as goal
+use Rattle.predict_core.proofs.group.long.directions.fill_differences.Given as goal
 
 abbrev pub invariant-loop-i : goal.invariant-loop-i
 invariant-loop-i l = record {

@@ -2,7 +2,7 @@ use Rattle.std.proofs.Common.{◌≡◌, slice_index, ◌∙◌, ap, refl, arith
 use Rattle.std.proofs.lemmas.List.{get_or-take}
 use Rattle.predict_core.specs.GroupLines.{IsLongDifference}
 use Rattle.predict_core.proofs.GroupLines.{taken_at}
-use Rattle.predict_core.proofs.group.long.lines.fill_three.Goals as goal
+use Rattle.predict_core.proofs.group.long.directions.fill_three.Goals as goal
 
 -- the same of another number and of the same offset
 moved : (offset other : ℕ) (sum d e : ℤ) → offset ≡ other → e ≡ d → IsLongDifference offset sum d → IsLongDifference other sum e

@@ -9,8 +9,8 @@ use Rattle.sample_prediction.specs.OffsetSum.{offset_difference}
 use Rattle.sample_prediction.proofs.Directions.{directional_first}
 use Rattle.predict_core.proofs.GroupLines.{three}
 use Rattle.predict_core.specs.GroupLines.{IsLongDifference}
-use Rattle.predict_core.proofs.group.long.lines.fill_directions.Goals as goal
-use Rattle.predict_core.proofs.group.long.lines.fill_directions.Goals.{After-fill_three}
+use Rattle.predict_core.proofs.group.long.directions.fill_directions.Goals as goal
+use Rattle.predict_core.proofs.group.long.directions.fill_directions.Goals.{After-fill_three}
 
 pub returns-then-y-eq0 : goal.returns-then-y-eq0
 returns-then-y-eq0 c = λ i k l h m.
