@@ -12,7 +12,8 @@ use Rattle.sample_prediction.specs.Weights.{updated_weights, updated_weight}
 use Rattle.sample_prediction.proofs.Floors.{floor_within}
 use Rattle.sample_prediction.proofs.Inner.{inner_within}
 use Rattle.sample_prediction.proofs.Prefixes.{product_more, update_more}
-use Rattle.band_lanes.specs.Fours.{column_of}
+use Rattle.band_lanes.specs.declared.four.rows.Rows.{Rows}
+use Rattle.band_lanes.specs.Fours.{column_of, no_rows, row_components}
 use Rattle.band_lanes.proofs.Floors.{halved_is}
 
 pub column_long : (n b : ℕ) (rows : List (List ℤ)) → n ≤ length rows → length (column_of n b rows) ≡ n
@@ -45,29 +46,59 @@ column_set n b now row h =
     ap (λ k. map (λ row. lane row b) (take k (set now n row))) (add-one n) ∙ ap (map (λ row. lane row b)) (take-suc-set now n row h)
     ∙ map-append (λ row. lane row b) (take n now) (row ∷ [])
 
-same_length : (n b : ℕ) (rows others : List (List ℤ)) → n ≤ length rows → n ≤ length others → length (column_of n b rows) ≡ length (column_of n b others)
-same_length n b rows others h k = column_long n b rows h ∙ sym (column_long n b others k)
+-- ---- components in rows
+
+pub row_components_long : (n b : ℕ) (rows : List Rows) (i : ℕ) → n ≤ length rows → length (row_components n b rows i) ≡ n
+unfolding row_components
+row_components_long n b rows i h = length-map (take n rows) (λ (r : Rows). place r.places i b) ∙ length-take-le n rows h
+
+component_at : (n b k : ℕ) (rows : List Rows) (i : ℕ) → k < n → get_or (row_components n b rows i) k (pos 0) ≡ place (get_or rows k no_rows).places i b
+unfolding row_components
+component_at n b k rows i h =
+    get_or-map (λ (r : Rows). place r.places i b) (take n rows) k no_rows ∙ ap (λ (r : Rows). place r.places i b) (get_or-take n rows k no_rows h)
+
+pub component_in : (limit n b k : ℕ) (rows : List Rows) (i : ℕ) → n ≤ length rows → k < n → AllWithin limit (row_components n b rows i)
+    → unsigned_abs (place (get_or rows k no_rows).places i b) ≤ limit
+component_in limit n b k rows i h l w =
+    let long = row_components_long n b rows i h in subst (λ v. unsigned_abs v ≤ limit) (component_at n b k rows i l) (w k (omega (arith, long, l)))
+
+pub components_less : (limit n m b : ℕ) (rows : List Rows) (i : ℕ) → n ≤ m → m ≤ length rows → AllWithin limit (row_components m b rows i)
+    → AllWithin limit (row_components n b rows i)
+components_less limit n m b rows i h l w k j =
+    let long = row_components_long n b rows i (omega (arith, h, l)) in let inside : k < n = omega (arith, long, j) in
+    subst (λ v. unsigned_abs v ≤ limit) (sym (component_at n b k rows i inside)) (component_in limit m b k rows i l (omega (arith, inside, h)) w)
+
+components_more : (n b : ℕ) (rows : List Rows) (i : ℕ) → n < length rows
+    → row_components (n + 1) b rows i ≡ row_components n b rows i ++ place (get_or rows n no_rows).places i b ∷ []
+unfolding row_components
+components_more n b rows i h =
+    ap (λ k. map (λ (r : Rows). place r.places i b) (take k rows)) (add-one n) ∙ ap (map (λ (r : Rows). place r.places i b)) (take-suc rows n no_rows h)
+    ∙ map-append (λ (r : Rows). place r.places i b) (take n rows) (get_or rows n no_rows ∷ [])
+
+same_length : (n b : ℕ) (rows : List (List ℤ)) (others : List Rows) (i : ℕ) → n ≤ length rows → n ≤ length others
+    → length (column_of n b rows) ≡ length (row_components n b others i)
+same_length n b rows others i h k = column_long n b rows h ∙ sym (row_components_long n b others i k)
 
 -- ---- their products
 
-pub products_none : (b : ℕ) (rows others : List (List ℤ)) → inner_product (column_of 0 b rows) (column_of 0 b others) ≡ pos 0
-unfolding inner_product column_of
-products_none b rows others = refl
+pub products_none : (b : ℕ) (rows : List (List ℤ)) (others : List Rows) (i : ℕ) → inner_product (column_of 0 b rows) (row_components 0 b others i) ≡ pos 0
+unfolding inner_product column_of row_components
+products_none b rows others i = refl
 
-pub products_more : (n b : ℕ) (rows others : List (List ℤ)) → n < length rows → n < length others
-    → inner_product (column_of (n + 1) b rows) (column_of (n + 1) b others)
-    ≡ inner_product (column_of n b rows) (column_of n b others) +ℤ lane (get_or rows n []) b *ℤ lane (get_or others n []) b
-products_more n b rows others h k =
-    ap₂ inner_product (column_more n b rows h) (column_more n b others k)
-    ∙ product_more (column_of n b rows) (column_of n b others) _ _ (same_length n b rows others (omega (arith, h)) (omega (arith, k)))
+pub products_more : (n b : ℕ) (rows : List (List ℤ)) (others : List Rows) (i : ℕ) → n < length rows → n < length others
+    → inner_product (column_of (n + 1) b rows) (row_components (n + 1) b others i)
+    ≡ inner_product (column_of n b rows) (row_components n b others i) +ℤ place rows n b *ℤ place (get_or others n no_rows).places i b
+products_more n b rows others i h k =
+    ap₂ inner_product (column_more n b rows h) (components_more n b others i k)
+    ∙ product_more (column_of n b rows) (row_components n b others i) _ _ (same_length n b rows others i (omega (arith, h)) (omega (arith, k)))
 
-pub products_in : (fraction n b : ℕ) (rows others : List (List ℤ)) → n ≤ 18 → n ≤ length others → AllWithin (2 ^ (fraction + 2)) (column_of n b rows)
-    → AllWithin (2 ^ 18) (column_of n b others)
-    → unsigned_abs (inner_product (column_of n b rows) (column_of n b others)) ≤ 18 * (2 ^ (fraction + 2) * 2 ^ 18)
-products_in fraction n b rows others few h w u =
-    let long = column_long n b others h in
-    le_trans (inner_within (2 ^ (fraction + 2)) (column_of n b rows) (column_of n b others) w u)
-    (mul-le (length (column_of n b others)) (2 ^ (fraction + 2) * 2 ^ 18) 18 (2 ^ (fraction + 2) * 2 ^ 18) (omega (arith, long, few)) (omega arith))
+pub products_in : (fraction n b : ℕ) (rows : List (List ℤ)) (others : List Rows) (i : ℕ) → n ≤ 18 → n ≤ length others
+    → AllWithin (2 ^ (fraction + 2)) (column_of n b rows) → AllWithin (2 ^ 18) (row_components n b others i)
+    → unsigned_abs (inner_product (column_of n b rows) (row_components n b others i)) ≤ 18 * (2 ^ (fraction + 2) * 2 ^ 18)
+products_in fraction n b rows others i few h w u =
+    let long = row_components_long n b others i h in
+    le_trans (inner_within (2 ^ (fraction + 2)) (column_of n b rows) (row_components n b others i) w u)
+    (mul-le (length (row_components n b others i)) (2 ^ (fraction + 2) * 2 ^ 18) 18 (2 ^ (fraction + 2) * 2 ^ 18) (omega (arith, long, few)) (omega arith))
 
 -- 64 bits hold them
 pub long_enough : (fraction : ℕ) (v : ℤ) → fraction ≤ 19 → unsigned_abs v ≤ 18 * (2 ^ (fraction + 2) * 2 ^ 18) → unsigned_abs v < 2 ^ 63
@@ -82,16 +113,17 @@ quotient_in fraction v h =
 
 -- ---- their update
 
-pub updates_none : (f : ℕ) (e : ℤ) (s : Bool) (b : ℕ) (old now us : List (List ℤ))
-    → column_of 0 b now ≡ updated_weights f e s (column_of 0 b old) (column_of 0 b us)
-unfolding updated_weights column_of
-updates_none f e s b old now us = refl
+pub updates_none : (f : ℕ) (e : ℤ) (s : Bool) (b : ℕ) (old now : List (List ℤ)) (us : List Rows) (i : ℕ)
+    → column_of 0 b now ≡ updated_weights f e s (column_of 0 b old) (row_components 0 b us i)
+unfolding updated_weights column_of row_components
+updates_none f e s b old now us i = refl
 
-pub updates_more : (f : ℕ) (e : ℤ) (s : Bool) (n b : ℕ) (old now us : List (List ℤ)) (row : List ℤ) → n < length old → n < length now → n < length us
-    → lane row b ≡ updated_weight f e s (lane (get_or old n []) b) (lane (get_or us n []) b)
-    → column_of n b now ≡ updated_weights f e s (column_of n b old) (column_of n b us)
-    → column_of (n + 1) b (set now n row) ≡ updated_weights f e s (column_of (n + 1) b old) (column_of (n + 1) b us)
-updates_more f e s n b old now us row h l k p q =
+pub updates_more : (f : ℕ) (e : ℤ) (s : Bool) (n b : ℕ) (old now : List (List ℤ)) (us : List Rows) (i : ℕ) (row : List ℤ)
+    → n < length old → n < length now → n < length us
+    → lane row b ≡ updated_weight f e s (place old n b) (place (get_or us n no_rows).places i b)
+    → column_of n b now ≡ updated_weights f e s (column_of n b old) (row_components n b us i)
+    → column_of (n + 1) b (set now n row) ≡ updated_weights f e s (column_of (n + 1) b old) (row_components (n + 1) b us i)
+updates_more f e s n b old now us i row h l k p q =
     column_set n b now row l ∙ ap₂ (λ xs x. xs ++ x ∷ []) q p
-    ∙ sym (update_more f e s (column_of n b old) (column_of n b us) _ _ (same_length n b old us (omega (arith, h)) (omega (arith, k))))
-    ∙ ap₂ (updated_weights f e s) (sym (column_more n b old h)) (sym (column_more n b us k))
+    ∙ sym (update_more f e s (column_of n b old) (row_components n b us i) _ _ (same_length n b old us i (omega (arith, h)) (omega (arith, k))))
+    ∙ ap₂ (updated_weights f e s) (sym (column_more n b old h)) (sym (components_more n b us i k))

@@ -2,5 +2,6 @@
 
 pub mod follow;
 mod predicted;
+pub mod rows;
 pub mod step;
 mod update;

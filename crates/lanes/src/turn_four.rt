@@ -4,6 +4,7 @@ ghost use Rattle.std.specs.Prelude.{◌≡◌, ◌≢◌, ◌<◌, ◌≤◌, �
 ghost use Rattle.lanes.specs.Lanes.{lane, place};
 ghost use Rattle.lanes.specs.TurningFour.{four_rows, lower_halves, upper_halves, woven_four};
 
+use crate::four::put;
 use std::simd::prelude::*;
 
 /// Four rows of four numbers.
@@ -102,18 +103,10 @@ fn put_four(square: FourRows, at: usize, rows: &mut [[i32; 4]; 64])
     ensures before { (i b : ℕ) → i < at → place rows.new i b ≡ place rows.old i b }
     ensures written { (j b : ℕ) → j < 4 → place rows.new (at + j) b ≡ place (four_rows square) j b }
 {
-    put_four_numbers(square.a, &mut rows[at]);
-    put_four_numbers(square.b, &mut rows[at + 1]);
-    put_four_numbers(square.c, &mut rows[at + 2]);
-    put_four_numbers(square.d, &mut rows[at + 3]);
-}
-
-/// Writes four numbers into a row.
-#[inline(always)]
-fn put_four_numbers(numbers: i32x4, row: &mut [i32; 4])
-    ensures { row.new ≡ numbers }
-{
-    numbers.copy_to_slice(row);
+    put(square.a, &mut rows[at]);
+    put(square.b, &mut rows[at + 1]);
+    put(square.c, &mut rows[at + 2]);
+    put(square.d, &mut rows[at + 3]);
 }
 
 /// Turns rows and columns of a square into one another.

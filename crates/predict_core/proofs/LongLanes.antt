@@ -7,10 +7,10 @@ use Rattle.std.proofs.lemmas.List.{take_all, take-take, length-replicate, length
 use Rattle.cube_core.specs.Kind.{smid}
 use Rattle.cube_core.specs.Image.{Image, IsCube, IsPlace}
 use Rattle.header_bits.specs.declared.params.Params.{Params}
-use Rattle.lanes.specs.Lanes.{lane, place}
+use Rattle.lanes.specs.Lanes.{place}
 use Rattle.band_lanes.specs.Fours.{column_of}
 use Rattle.predict_core.specs.declared.settings.Settings.{Settings}
-use Rattle.predict_core.specs.declared.group.long.rows.Rows.{Rows}
+use Rattle.band_lanes.specs.declared.four.rows.Rows.{Rows}
 use Rattle.predict_core.specs.declared.group.long.lines.LongLines.{LongLines}
 use Rattle.predict_core.specs.Following.{PredictorState, IsPieceNext}
 use Rattle.predict_core.specs.GroupLanes.{IsLongLane, HasLongWeights}
@@ -18,7 +18,7 @@ use Rattle.predict_core.specs.GroupLines.{AreLongLines}
 use Rattle.predict_core.specs.GroupRooms.{AreConstants}
 use Rattle.predict_core.specs.Largest.{NeverWraps}
 use Rattle.predict_core.specs.LongRooms.{AreLongReady}
-use Rattle.predict_core.specs.LongRows.{no_rows, row_components}
+use Rattle.band_lanes.specs.Fours.{no_rows, row_components}
 use Rattle.predict_core.specs.RunChains.{IsFollowed, AreStepsThere}
 use Rattle.sample_prediction.specs.Arithmetic.{floor_div, wrapped}
 use Rattle.sample_prediction.specs.Bounds.{AllWithin}
@@ -68,17 +68,6 @@ components_are (suc n) b i [] vs h l same = absurd (omega (arith, h))
 components_are (suc n) b i (r ∷ rows) [] h l same = absurd (omega (arith, l))
 components_are (suc n) b i (r ∷ rows) (v ∷ vs) h l same =
     ap₂ (λ x xs. x ∷ xs) (same 0 (omega arith)) (components_are n b i rows vs (omega (arith, h)) (omega (arith, l)) (λ k m. same (suc k) (omega (arith, m))))
-
--- rows of one place
-pub columns_are : (n b i : ℕ) (at : List (List ℤ)) (rows : List Rows) → n ≤ length at → n ≤ length rows
-    → ((k : ℕ) → k < n → get_or at k [] ≡ get_or (get_or rows k no_rows).places i []) → column_of n b at ≡ row_components n b rows i
-unfolding column_of row_components
-columns_are zero b i at rows h l same = refl
-columns_are (suc n) b i [] rows h l same = absurd (omega (arith, h))
-columns_are (suc n) b i (a ∷ at) [] h l same = absurd (omega (arith, l))
-columns_are (suc n) b i (a ∷ at) (r ∷ rows) h l same =
-    ap₂ (λ x xs. x ∷ xs) (ap (λ row. lane row b) (same 0 (omega arith)))
-    (columns_are n b i at rows (omega (arith, h)) (omega (arith, l)) (λ k m. same (suc k) (omega (arith, m))))
 
 -- ---- weights that are written
 

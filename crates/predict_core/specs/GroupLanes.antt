@@ -7,8 +7,8 @@ use Rattle.band_lanes.specs.Rows.{weights_of, components_of}
 use Rattle.predict_core.specs.declared.settings.Settings.{Settings}
 use Rattle.predict_core.specs.Following.{PredictorState}
 use Rattle.predict_core.specs.Largest.{NeverWraps}
-use Rattle.predict_core.specs.LongRows.{row_components}
-use Rattle.predict_core.specs.declared.group.long.rows.Rows.{Rows}
+use Rattle.band_lanes.specs.Fours.{row_components}
+use Rattle.band_lanes.specs.declared.four.rows.Rows.{Rows}
 use Rattle.band_lanes.specs.Fours.{column_of}
 use Rattle.sample_prediction.specs.Bounds.{AllWithin}
 use Rattle.sample_prediction.specs.Predictor.{component_count}

@@ -7,7 +7,6 @@ pub mod GroupRooms
 pub mod OpenPart
 pub mod Largest
 pub mod LongRooms
-pub mod LongRows
 pub mod PredictorStates
 pub mod Precedence
 pub mod Rooms

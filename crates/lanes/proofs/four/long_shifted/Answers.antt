@@ -7,5 +7,5 @@ use Rattle.lanes.proofs.four.long_shifted.Goals as goal
 
 pub returns : goal.returns
 returns c k within =
-    let a = vector w64 2 c.args.a _ c.well_formed.0 in
-    step_by_one w64 _ c.args.a c.args.by 2 k a.0 within ∙ shifted_is w64 (lane c.args.a k) c.args.by (a.1 k)
+    let a = vector w64 4 c.args.a _ c.well_formed.0 in
+    step_by_one w64 _ c.args.a c.args.by 4 k a.0 within ∙ shifted_is w64 (lane c.args.a k) c.args.by (a.1 k)

@@ -7,5 +7,5 @@ use Rattle.lanes.proofs.four.long_sum.Goals as goal
 
 pub returns : goal.returns
 returns c k within fits =
-    let a = vector w64 2 c.args.a _ c.well_formed.0 in let b = vector w64 2 c.args.b _ c.well_formed.1.0 in
-    step_of_two w64 _ c.args.a c.args.b 2 k a.0 b.0 within ∙ sum_is w64 (lane c.args.a k) (lane c.args.b k) (a.1 k) (b.1 k) fits
+    let a = vector w64 4 c.args.a _ c.well_formed.0 in let b = vector w64 4 c.args.b _ c.well_formed.1.0 in
+    step_of_two w64 _ c.args.a c.args.b 4 k a.0 b.0 within ∙ sum_is w64 (lane c.args.a k) (lane c.args.b k) (a.1 k) (b.1 k) fits

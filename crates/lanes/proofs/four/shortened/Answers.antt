@@ -9,8 +9,8 @@ use Rattle.lanes.proofs.four.shortened.Goals as goal
 
 pub overflow_cast-result : goal.overflow_cast-result
 overflow_cast-result c =
-    let a = vector w64 2 c.args.a _ c.well_formed.0 in
-    let l : length (map (of_z w64) c.args.a) ≡ 2 = length-map c.args.a (of_z w64) ∙ a.0 in
+    let a = vector w64 4 c.args.a _ c.well_formed.0 in
+    let l : length (map (of_z w64) c.args.a) ≡ 4 = length-map c.args.a (of_z w64) ∙ a.0 in
     Each1-from_get_or _ (map (of_z w64) c.args.a) 0 (λ k h.
     let e : to_z w64 (get_or (map (of_z w64) c.args.a) k 0) ≡ lane c.args.a k =
     ap (to_z w64) (bits_of w64 c.args.a k (omega (arith, l, a.0))) ∙ to_z-of_z w64 (lane c.args.a k) (a.1 k) in
@@ -18,7 +18,7 @@ overflow_cast-result c =
 
 pub returns : goal.returns
 returns c k within =
-    let a = vector w64 2 c.args.a _ c.well_formed.0 in
+    let a = vector w64 4 c.args.a _ c.well_formed.0 in
     number w32 (cast_bits w64 w32 c.args.a) k (omega (arith, a.0, length-cast_bits w64 w32 c.args.a))
     ∙ ap (to_z w32) (bits_of_cast w64 w32 c.args.a k (a.1 k) (omega (arith, a.0)))
     ∙ to_z-of_z w32 (lane c.args.a k) (fits_signed_from_abs w32 _ (c.requires k within))

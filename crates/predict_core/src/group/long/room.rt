@@ -1,7 +1,7 @@
 //! Room for what a piece of bands needs that go in lanes of 32 bits.
 
 use crate::group::long::lines::LongLines;
-use crate::group::long::rows::Rows;
+use band_lanes::four::rows::Rows;
 use sample_prediction::predictor::MOST_COMPONENTS;
 
 /// Room for what is computed of a piece of four bands.

@@ -1,20 +1,14 @@
 //! The components of four bands, from their lines to rows that have a number of each band.
 
-ghost use Rattle.std.specs.Prelude.{◌≡◌, ◌≢◌, ◌+◌, ◌*◌, ◌<◌, ◌≤◌, ℕ, length, slice_index_or, []};
+ghost use Rattle.std.specs.Prelude.{◌≡◌, ◌≢◌, ◌+◌, ◌*◌, ◌<◌, ◌≤◌, ℕ, length, slice_index_or};
 ghost use Rattle.lanes.specs.Lanes.{lane, place};
-ghost use Rattle.band_lanes.specs.Fours.{column_of};
+ghost use Rattle.band_lanes.specs.Fours.{no_rows};
 ghost use Rattle.predict_core.specs.GroupLines.{no_long_lines};
-ghost use Rattle.predict_core.specs.LongRows.{no_rows, row_components};
 
 use crate::group::long::lines::LongLines;
+use band_lanes::four::rows::Rows;
 use lanes::turn_four::turn_four;
 use sample_prediction::predictor::MOST_COMPONENTS;
-
-/// A component of four bands at each place of a piece.
-#[derive(Clone, Copy)]
-pub(crate) struct Rows {
-    pub places: [[i32; 4]; 64],
-}
 
 /// Writes the first 2·`Q` components of four bands, from band `from` on.
 pub(crate) fn fill_rows<const Q: usize>(
@@ -62,30 +56,4 @@ pub(crate) fn fill_own(bands: &[LongLines; 8], from: usize, own: &mut [[i32; 4];
         &bands[from + 3].own,
         own,
     );
-}
-
-/// Returns the first 2·`Q` components of four bands at place `i`, followed by zeros.
-#[inline(always)]
-pub(crate) fn components_at<const Q: usize>(
-    rows: &[Rows; MOST_COMPONENTS],
-    i: usize,
-) -> [[i32; 4]; MOST_COMPONENTS]
-    requires few { Q ≤ 9 }
-    requires place { i < 64 }
-    ensures { (b : ℕ) → column_of (2 * Q) b result ≡ row_components (2 * Q) b rows.now i }
-{
-    let mut at = [[0; 4]; MOST_COMPONENTS];
-    for k in 0..2 * Q {
-        at[k] = row_at(&rows[k], i);
-    }
-    at
-}
-
-/// Returns the numbers of place `i`.
-#[inline(always)]
-fn row_at(rows: &Rows, i: usize) -> [i32; 4]
-    requires { i < 64 }
-    ensures { result ≡ slice_index_or rows.now.places i [] }
-{
-    rows.places[i]
 }

@@ -4,16 +4,15 @@ ghost use Rattle.std.specs.Prelude.{◌≡◌, ◌+◌, ◌*◌, ◌-◌, ◌^�
 ghost use Rattle.cube_core.specs.Image.{Image};
 ghost use Rattle.lanes.specs.Lanes.{place};
 ghost use Rattle.band_lanes.specs.Rows.{numbers_of};
-ghost use Rattle.band_lanes.specs.Fours.{column_of};
+ghost use Rattle.band_lanes.specs.Fours.{column_of, row_components};
 ghost use Rattle.sample_prediction.specs.Bounds.{AllWithin};
 ghost use Rattle.predict_core.specs.declared.settings.Settings.{Settings as Constants};
 ghost use Rattle.predict_core.specs.GroupLanes.{IsLongLane};
-ghost use Rattle.predict_core.specs.LongRows.{row_components};
 ghost use Rattle.predict_core.specs.RunChains.{AreStepsThere, IsFollowed};
 
 use crate::group::long::chain::follow_places;
-use crate::group::long::rows::Rows;
 use crate::settings::Settings;
+use band_lanes::four::rows::Rows;
 use band_lanes::four::step::LongStep;
 use sample_prediction::exponent::{exponent_at, places_alike};
 use sample_prediction::predictor::MOST_COMPONENTS;

@@ -1,7 +1,7 @@
 use Rattle.std.proofs.Common.{◌≡◌, ◌+◌, ◌<◌, ℕ, slice_index_or, length}
 use Rattle.lanes.specs.Lanes.{place}
 use Rattle.predict_core.specs.GroupLines.{no_long_lines}
-use Rattle.predict_core.specs.LongRows.{no_rows}
+use Rattle.band_lanes.specs.Fours.{no_rows}
 use Rattle.predict_core.proofs.group.long.rows.fill_rows.Given as goal
 
 abbrev pub invariant-loop-k : goal.invariant-loop-k

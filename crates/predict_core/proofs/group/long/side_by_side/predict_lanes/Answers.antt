@@ -6,7 +6,7 @@ use Rattle.band_lanes.specs.Fours.{column_of}
 use Rattle.predict_core.specs.Following.{PredictorState, IsPieceNext}
 use Rattle.predict_core.specs.GroupLanes.{HasLongWeights}
 use Rattle.predict_core.specs.GroupLines.{no_long_lines}
-use Rattle.predict_core.specs.LongRows.{row_components}
+use Rattle.band_lanes.specs.Fours.{row_components}
 use Rattle.predict_core.proofs.GroupFilled.{followed_none, followed_alike, number_at}
 use Rattle.predict_core.proofs.LongLanes.{long_ready_at, long_lane_filled, filled_components_in}
 use Rattle.predict_core.proofs.group.long.side_by_side.predict_lanes.Given as given

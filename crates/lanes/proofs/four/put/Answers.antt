@@ -2,7 +2,7 @@ use Rattle.std.proofs.Common.{◌∙◌, ap, sym, map, to_z, of_z, length, w32}
 use Rattle.std.proofs.lemmas.Simd.{put_chunk_whole}
 use Rattle.lanes.proofs.Ranges.{vector}
 use Rattle.lanes.proofs.Steps.{same}
-use Rattle.lanes.proofs.turn_four.put_four_numbers.Goals as goal
+use Rattle.lanes.proofs.four.put.Goals as goal
 
 pub returns : goal.returns
 returns c =
