@@ -69,6 +69,11 @@ abbrev pub HoldLongCentrals : Predictor → Image → ℕ → ℕ → ℕ → Li
 HoldLongCentrals p c y x count ls =
     (j : ℕ) → j < length ls → HoldsCentral p c (slice_index_or ls j no_long_lines).band y x count (slice_index_or ls j no_long_lines).own
 
+-- and n components of each
+abbrev pub HoldLongComponents : ℕ → Predictor → Image → ℕ → ℕ → ℕ → List LongLines → Type 0
+HoldLongComponents n p c y x count ls =
+    (j : ℕ) → j < length ls → HoldsComponents n p c (slice_index_or ls j no_long_lines).band y x count (slice_index_or ls j no_long_lines).components
+
 -- the lines of band z hold what its samples and those of the previous bands tell, with n components
 pub record AreLongLines (n : ℕ) (p : Predictor) (z : ℕ) (c : Image) (y x count : ℕ) (l : LongLines) : Type 0 where
   pub band : l.band ≡ z

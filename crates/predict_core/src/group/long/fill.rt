@@ -2,7 +2,7 @@
 
 ghost use Rattle.std.specs.Prelude.{◌≡◌, ◌-◌, ◌<◌, ◌≤◌, ℕ, min, length, slice_get, slice_index_or, Some};
 ghost use Rattle.predict_core.specs.Following.{IsPieceNext, PredictorState};
-ghost use Rattle.predict_core.specs.GroupLines.{AreLongLines, AreAlike, HoldLongCentrals, no_long_lines};
+ghost use Rattle.predict_core.specs.GroupLines.{AreLongLines, AreAlike, HoldLongCentrals, HoldLongComponents, no_long_lines};
 
 use crate::band::Band;
 use crate::group::long::lines::{LongLines, fill_band};
@@ -23,6 +23,7 @@ fn fill_lane(
     requires some { 1 ≤ count }
     requires lines { n ≤ 18 }
     requires before { HoldLongCentrals band.now.predictor cube.now y x count before.now }
+    requires lower { HoldLongComponents n band.now.predictor cube.now y x count before.now }
     ensures { AreLongLines n band.now.predictor band.now.band cube.now y x count out.new }
 {
     fill_band(&band.settings, cube, y, x, count, before, n, out);

@@ -1,11 +1,11 @@
 //! What the samples tell of a piece of one band, in lines of 32 bits, which hold it for samples of any depth.
 
-ghost use Rattle.std.specs.Prelude.{◌≡◌, ◌≢◌, ◌+◌, ◌-◌, ◌*◌, ◌<◌, ◌≤◌, ◌||◌, ◌==◌, ℕ, false, pos, length, slice_index_or};
+ghost use Rattle.std.specs.Prelude.{◌≡◌, ◌≢◌, ◌+◌, ◌-◌, ◌*◌, ◌<◌, ◌≤◌, ◌||◌, ◌==◌, ℕ, false, pos, length, slice_index_or, if◌then◌else◌, []};
 ghost use Rattle.cube_core.specs.Image.{IsPlace};
 ghost use Rattle.lanes.specs.Lanes.{place};
 ghost use Rattle.sample_prediction.specs.Lines.{line_sum, AreBandLines};
 ghost use Rattle.predict_core.specs.Rooms.{lower_difference};
-ghost use Rattle.predict_core.specs.GroupLines.{spectral_from, HoldsCentral, HoldLongCentrals, HoldsSums, HoldsComponents, AreLongLines};
+ghost use Rattle.predict_core.specs.GroupLines.{spectral_from, HoldsCentral, HoldLongCentrals, HoldLongComponents, HoldsSums, HoldsComponents, AreLongLines};
 
 use crate::band::first_spectral;
 use crate::fills::fill_own;
@@ -57,7 +57,8 @@ pub(crate) fn fill_central(
 
 /// Writes the central differences of the band that is `below` bands below, or zeros if that band isn't used.
 ///
-/// `before` are lines of other bands, whose central differences are copied where the last of them has that band.
+/// `before` are lines of other bands, with `n` components. If the last of them are those of the next lower band, these have the
+/// differences already.
 fn fill_lower(
     settings: &Settings,
     cube: &Cube,
@@ -75,6 +76,7 @@ fn fill_lower(
     requires inside { x + count ≤ cube.now.shape.columns }
     requires below_in { 1 ≤ below }
     requires before { HoldLongCentrals settings.now.predictor cube.now y x count before.now }
+    requires components { HoldLongComponents (spectral_from settings.now.predictor + below) settings.now.predictor cube.now y x count before.now }
     ensures { (i : ℕ) → i < count → 0 < y + (x + i) → slice_index_or out.new i (pos 0) ≡ lower_difference settings.now.predictor cube.now settings.now.band y
         (x + i) below }
 {
@@ -82,16 +84,29 @@ fn fill_lower(
         clear_line(out);
         return;
     }
-    let z = settings.band - below as u32;
-    if below <= before.len() {
-        let lines = &before[before.len() - below];
-        if lines.band == z {
-            copy_line(&lines.own, out);
+    if !before.is_empty() {
+        let lines = &before[before.len() - 1];
+        if lines.band == settings.band - 1 {
+            copy_lower(settings.predictor.reduced, below, lines, out);
             return;
         }
     }
+    let z = settings.band - below as u32;
     let mut sums = [0; 64];
     fill_central(&settings.predictor, cube, z, y, x, count, &mut sums, out);
+}
+
+/// Writes the central differences of the band that is `below` bands below the next one to these lines' band.
+fn copy_lower(reduced: bool, below: usize, lines: &LongLines, out: &mut [i32; 64])
+    requires { (1 ≤ below) × (below ≤ 15) }
+    ensures own { below ≡ 1 → out.new ≡ lines.now.own }
+    ensures lower { 2 ≤ below → out.new ≡ slice_index_or lines.now.components ((if reduced then 0 else 3) + below - 2) [] }
+{
+    if below == 1 {
+        copy_line(&lines.own, out);
+    } else {
+        copy_line(&lines.components[first_spectral(reduced) + below - 2], out);
+    }
 }
 
 /// Writes the central differences of the previous bands into the lines of components that follow the directional ones, up to line `n`.
@@ -112,6 +127,7 @@ fn fill_spectral(
     requires inside { x + count ≤ cube.now.shape.columns }
     requires lines { n ≤ 18 }
     requires before { HoldLongCentrals settings.now.predictor cube.now y x count before.now }
+    requires components { HoldLongComponents n settings.now.predictor cube.now y x count before.now }
     ensures spectral { (i k : ℕ) → i < count → 0 < y + (x + i) → spectral_from settings.now.predictor ≤ k → k < n → place components.new k i
         ≡ lower_difference settings.now.predictor cube.now settings.now.band y (x + i) (k - spectral_from settings.now.predictor + 1) }
     ensures others { (k i : ℕ) → k < spectral_from settings.now.predictor → place components.new k i ≡ place components.old k i }
@@ -139,6 +155,7 @@ fn fill_spectral_line(
     requires inside { x + count ≤ cube.now.shape.columns }
     requires line { (spectral_from settings.now.predictor ≤ k) × (k < 18) }
     requires before { HoldLongCentrals settings.now.predictor cube.now y x count before.now }
+    requires components { HoldLongComponents (k + 1) settings.now.predictor cube.now y x count before.now }
     ensures spectral { (i : ℕ) → i < count → 0 < y + (x + i) → place components.new k i ≡ lower_difference settings.now.predictor cube.now
         settings.now.band y (x + i) (k - spectral_from settings.now.predictor + 1) }
     ensures others { (j i : ℕ) → j ≢ k → place components.new j i ≡ place components.old j i }
@@ -177,6 +194,7 @@ pub(crate) fn fill_band(
     requires inside { x + count ≤ cube.now.shape.columns }
     requires lines { n ≤ 18 }
     requires before { HoldLongCentrals settings.now.predictor cube.now y x count before.now }
+    requires lower { HoldLongComponents n settings.now.predictor cube.now y x count before.now }
     ensures { AreLongLines n settings.now.predictor settings.now.band cube.now y x count out.new }
 {
     out.band = settings.band;
@@ -212,6 +230,7 @@ fn fill_components(
     requires inside { x + count ≤ cube.now.shape.columns }
     requires n_in { n ≤ 18 }
     requires before { HoldLongCentrals settings.now.predictor cube.now y x count before.now }
+    requires lower { HoldLongComponents n settings.now.predictor cube.now y x count before.now }
     requires lines { AreBandLines settings.now.predictor cube.now settings.now.band y x count lines.now.current lines.now.above }
     requires sums { (i : ℕ) → i < count → 0 < y + (x + i) → slice_index_or out.old.sums i (pos 0) ≡ pos (line_sum (settings.now.predictor.column || y == 0)
         lines.now.current lines.now.above i) }

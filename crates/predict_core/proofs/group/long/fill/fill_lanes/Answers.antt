@@ -3,7 +3,7 @@ use Rattle.std.proofs.lemmas.Bool.{cases_eq}
 use Rattle.std.proofs.lemmas.List.{get_or_append_left, get_or-append_right}
 use Rattle.std.proofs.lemmas.Option.{get_or_from_slice_get, slice_get_read, slice_get-get_or}
 use Rattle.predict_core.specs.Following.{PredictorState}
-use Rattle.predict_core.specs.GroupLines.{AreLongLines, HoldsCentral, no_long_lines}
+use Rattle.predict_core.specs.GroupLines.{AreLongLines, HoldsCentral, HoldsComponents, no_long_lines}
 use Rattle.predict_core.proofs.group.long.fill.fill_lanes.Goals as goal
 use Rattle.predict_core.proofs.group.long.fill.fill_lanes.Goals.{After-split_at_mut-before}
 
@@ -33,6 +33,17 @@ fill_lane-requires-clause-before c j l =
     subst (λ l. HoldsCentral c.index-bands-min.result.predictor c.args.cube.now l.band c.args.y c.args.x c.args.count l.own) (front_at d j within)
     (subst (λ z. HoldsCentral c.index-bands-min.result.predictor c.args.cube.now z c.args.y c.args.x c.args.count (get_or c.loop-i.out j no_long_lines).own) (sym told.band)
     (subst (λ p. HoldsCentral p c.args.cube.now other.band c.args.y c.args.x c.args.count (get_or c.loop-i.out j no_long_lines).own) same told.own))
+
+pub fill_lane-requires-clause-lower : goal.fill_lane-requires-clause-lower
+fill_lane-requires-clause-lower c j l =
+    let d = (goal.at.fill_lane-requires-clause-lower c).After-split_at_mut-before in
+    let within : j < c.loop-i.i = (let e = c.split_at_mut-before.ensures.front_len in omega (arith, e, l)) in
+    let other = get_or c.args.bands.now (min j (length c.args.bands.now - 1)) c.index-bands-min.result in
+    let there = slice_get-get_or c.args.bands.now (min j (length c.args.bands.now - 1)) c.index-bands-min.result (inside d j) in
+    let told = c.loop-i.invariant.done j other within there in let same = c.requires.alike _ _ _ _ (at d) there in
+    subst (λ l. HoldsComponents c.args.n c.index-bands-min.result.predictor c.args.cube.now l.band c.args.y c.args.x c.args.count l.components) (front_at d j within)
+    (subst (λ z. HoldsComponents c.args.n c.index-bands-min.result.predictor c.args.cube.now z c.args.y c.args.x c.args.count (get_or c.loop-i.out j no_long_lines).components) (sym told.band)
+    (subst (λ p. HoldsComponents c.args.n p c.args.cube.now other.band c.args.y c.args.x c.args.count (get_or c.loop-i.out j no_long_lines).components) same told.components))
 
 pub loop-i-preserved : goal.loop-i-preserved
 loop-i-preserved c =
