@@ -12,6 +12,7 @@ pub mod Pieces
 pub mod Written
 pub mod Putting
 pub mod Raws
+pub mod Runs
 pub mod Scales
 pub mod Spelled
 pub mod Tiles

@@ -11,6 +11,7 @@ pub mod Order
 pub mod Pieces
 pub mod Raw
 pub mod Examples
+pub mod Runs
 pub mod Scale
 pub mod Shape
 pub mod Steps

@@ -1,6 +1,6 @@
 //! A cube of samples, kept in two bytes each.
 
-ghost use Rattle.std.specs.Prelude.{◌≡◌, ◌≢◌, ◌↔◌, ◌*◌, ◌≤ℤ◌, None, length, replicate, pos, negsuc, IfOk, IfErr, IfSome};
+ghost use Rattle.std.specs.Prelude.{◌≡◌, ◌≢◌, ◌↔◌, ◌+◌, ◌*◌, ◌^◌, ◌<◌, ◌≤◌, ◌≤ℤ◌, ℕ, None, length, slice_index, replicate, pos, negsuc, IfOk, IfErr, IfSome};
 ghost use Rattle.cube_core.specs.Shape.{sample_count};
 ghost use Rattle.cube_core.specs.Image.{IsCube, IsPlace, sample_at, put};
 ghost use Rattle.cube_core.specs.Layout.{IsLayout, raw_bytes, HaveBytes, IsFirstUnfit};
@@ -8,6 +8,7 @@ ghost use Rattle.cube_core.specs.Raw.{IsRawFault, IsUnfit};
 ghost use Rattle.cube_core.specs.declared.fault.Fault.TheVariants.{RawLength, WantOfMemory};
 ghost use Rattle.cube_core.specs.Kind.{IsSample};
 ghost use Rattle.cube_core.specs.Offsets.{AreRowOffsets};
+ghost use Rattle.cube_core.specs.Runs.{IsRunSet};
 
 use crate::cursor::Places;
 use crate::fault::Fault;
@@ -203,6 +204,17 @@ impl Cube {
         self.offsets[at] = self.kind.offset_of(sample);
     }
 
+    /// Sets samples of row `y` of band `z`, from column `x` on, which are inside the shape, to those with these offsets from the
+    /// least sample of the kind, each at most 2^D - 1. No other sample changes.
+    pub fn set_run(&mut self, z: u32, y: u32, x: u32, offsets: &[u16])
+        requires place { IsPlace self.old.shape z y x }
+        requires inside { x + length offsets.now ≤ self.old.shape.columns }
+        requires range { (i : ℕ) → i < length offsets.now → slice_index offsets.now i < 2 ^ self.old.kind.bits }
+        ensures { IsRunSet self.old self.new z y x offsets.now }
+    {
+        put_run(&mut self.offsets, index_at(self.shape, z, y, x), offsets);
+    }
+
     /// Lemma: sizes and kind are in range, and there is one sample of the kind at each place. It does nothing at run time.
     pub fn prove_is_cube(&self)
         ensures { IsCube self.now }
@@ -222,4 +234,14 @@ impl Cube {
         let from = index_at(self.shape, z, y, 0);
         &self.offsets[from..from + self.shape.columns() as usize]
     }
+}
+
+/// Replaces offsets, from index `at` on, by others.
+fn put_run(all: &mut [u16], at: usize, offsets: &[u16])
+    requires { at + length offsets.now ≤ length all.old }
+    ensures long { length all.new ≡ length all.old }
+    ensures put { (i : ℕ) → i < length offsets.now → slice_index all.new (at + i) ≡ slice_index offsets.now i }
+    ensures others { (j : ℕ) → (at ≤ j → at + length offsets.now ≤ j) → slice_index all.new j ≡ slice_index all.old j }
+{
+    all[at..at + offsets.len()].copy_from_slice(offsets);
 }

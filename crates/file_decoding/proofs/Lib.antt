@@ -1,5 +1,5 @@
 pub mod Found
 pub mod Givers
 mod Tiling
+mod Storing
 pub mod TileWalk
-pub mod Filling

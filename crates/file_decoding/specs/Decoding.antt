@@ -1,14 +1,17 @@
 -- The entropy coder, reading: the residuals that it has decoded, in encoding order; and what decoding a file returns.
-use Rattle.std.specs.Prelude.{ℕ, ◌≡◌, ◌⊎◌, ◌+◌, ◌^◌, ◌<◌, Bool, List, [], ◌∷◌, ◌++◌, length, Result, Ok, Err, IfOk, IfErr, MatchResult}
+use Rattle.std.specs.Prelude.{ℕ, ◌≡◌, ◌⊎◌, ◌+◌, ◌^◌, ◌<◌, Bool, List, [], ◌∷◌, ◌++◌, map, length, Result, Ok, Err, IfOk, IfErr, MatchResult}
 use Rattle.std.specs.List.{AllByRecursion}
 use Rattle.cube_core.specs.declared.fault.Fault.{Fault}
 use Rattle.cube_core.specs.declared.fault.Fault.TheVariants.{WantOfMemory}
+use Rattle.cube_core.specs.declared.order.Place.{Place}
 use Rattle.cube_core.specs.Image.{Image}
+use Rattle.cube_core.specs.Order.{places}
 use Rattle.header_bits.specs.declared.params.Params.{Params}
 use Rattle.header_bits.specs.Bits.{Unread, bits_of_bytes}
 use Rattle.header_bits.specs.Header.{BeginsWithTable}
 use Rattle.header_bits.specs.Lawful.{IsLawful}
 use Rattle.predict_core.specs.Cubes.{IsCubeOf}
+use Rattle.predict_core.specs.Inversion.{number_at}
 use Rattle.sample_prediction.specs.Residual.{residuals}
 use Rattle.sample_adaptive.specs.Given.{HasGiven as GivenBySamples, IsNext}
 use Rattle.block_adaptive.specs.Given.{HasGivenOf}
@@ -80,6 +83,18 @@ pub record TakesCube (p : Params) (c : Image) (bits left : List Bool) : Type 0 w
   pub cube : IsCubeOf p c
   pub body : List Bool
   pub coded : IsBody p (residuals p c) body
+  pub text : bits ≡ body ++ left
+
+-- the numbers that an image holds at places, as offsets from the least sample
+abbrev pub numbers_at : Image → List Place → List ℕ
+numbers_at c ps = map (λ q. number_at c q.z q.y q.x) ps
+
+-- the bits are a body of the numbers that the image holds in encoding order, followed by the bits that are left
+pub record TakesResiduals (p : Params) (c : Image) (bits left : List Bool) : Type 0 where
+  pub shape : c.shape ≡ p.shape
+  pub kind : c.kind ≡ p.kind
+  pub body : List Bool
+  pub coded : IsBody p (numbers_at c (places p.shape p.order)) body
   pub text : bits ≡ body ++ left
 
 -- the result is these parameters and this cube, or `WantOfMemory`

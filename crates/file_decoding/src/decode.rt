@@ -1,6 +1,6 @@
 //! Decoding: from a file's bytes to its parameters and its cube.
 
-ghost use Rattle.std.specs.Prelude.{◌≡◌, ◌⊎◌, ◌+◌, ◌*◌, ◌^◌, ◌<◌, ◌≤◌, true, Err, IfOk, IfErr, length};
+ghost use Rattle.std.specs.Prelude.{◌≡◌, ◌⊎◌, ◌+◌, ◌*◌, ◌^◌, ◌<◌, ◌≤◌, true, Err, IfOk, IfErr, OnOk, length};
 ghost use Rattle.cube_core.specs.declared.fault.Fault.{Fault as Refusal};
 ghost use Rattle.cube_core.specs.declared.fault.Fault.TheVariants.{WantOfMemory};
 ghost use Rattle.cube_core.specs.Shape.{InRange};
@@ -11,7 +11,7 @@ ghost use Rattle.header_bits.specs.Lawful.{IsLawful};
 ghost use Rattle.header_bits.specs.Header.{header_at, BeginsWithTable};
 ghost use Rattle.file_format.specs.Files.{IsFile, after_body, fill_test, head_at, file_test};
 ghost use Rattle.cube_core.specs.Order.{IsPlaceOf, goes_along_rows};
-ghost use Rattle.file_decoding.specs.Decoding.{TakesCube, AnswersOr, IsNoFile, ReadsFile};
+ghost use Rattle.file_decoding.specs.Decoding.{TakesCube, TakesResiduals, AnswersOr, IsNoFile, ReadsFile};
 
 use crate::decoder::EntropyDecoder;
 use crate::minimum_length::test_length;
@@ -24,6 +24,7 @@ use header_bits::bit_reader::BitReader;
 use header_bits::header::take_header;
 use header_bits::params::Params;
 use predict_core::bands::all_bands;
+use predict_core::inversion::invert;
 use std::alloc::Global;
 
 /// Returns the parameters and the cube of a file of at most 2^60 bytes.
@@ -70,6 +71,8 @@ fn time_of(params: &Params, place: Place) -> u64
 }
 
 /// Reads a body, and returns its cube.
+///
+/// No entropy coder needs samples, so the cube holds the residuals first. Once all of them are read, they are inverted in place.
 fn take_cube(alloc: Global, params: &Params, reader: &mut BitReader) -> Result<Cube, Fault>
     requires { IsLawful params.now }
     ensures taken { IfOk result (λ cube. TakesCube params.now cube reader.old.left reader.new.left) }
@@ -77,10 +80,29 @@ fn take_cube(alloc: Global, params: &Params, reader: &mut BitReader) -> Result<C
     ensures count { reader.new.count ≡ reader.old.count }
 {
     let mut cube = Cube::new(alloc, params.shape, params.kind)?;
-    // The predictors, and the residuals below, are borrowed as slices, whose lengths stay.
     let mut predictors = all_bands(alloc, params)?;
-    let bands = &mut predictors[..];
+    take_residuals(alloc, params, reader, &mut cube)?;
+    invert(&mut predictors, &mut cube);
+    Ok(cube)
+}
+
+/// Reads the residuals of a body, and stores each at its place, as an offset from the least sample.
+///
+/// The refusals are `WantOfMemory`, and the first fault of the body; what is in the cube is then unspecified.
+fn take_residuals(
+    alloc: Global,
+    params: &Params,
+    reader: &mut BitReader,
+    cube: &mut Cube,
+) -> Result<(), Fault>
+    requires lawful { IsLawful params.now }
+    requires alike { (cube.old.shape ≡ params.now.shape) × (cube.old.kind ≡ params.now.kind) }
+    ensures taken { OnOk result (TakesResiduals params.now cube.new reader.old.left reader.new.left) }
+    ensures refused { IfErr result (λ e. (e ≡ WantOfMemory) ⊎ (after_body reader.old.count params.now reader.old.left ≡ Err e)) }
+    ensures count { reader.new.count ≡ reader.old.count }
+{
     let mut decoder = EntropyDecoder::new(alloc, params)?;
+    // Borrowed as a slice, whose length stays.
     let mut residuals = vec![in alloc; 0u16; COLUMNS * most_bands(params.order) as usize]?;
     let room = &mut residuals[..];
     let count = params.shape.sample_count();
@@ -90,11 +112,10 @@ fn take_cube(alloc: Global, params: &Params, reader: &mut BitReader) -> Result<C
         let deltas = &mut room[..tile.count()];
         let index = count - places.left();
         tile.read(&mut decoder, time_of(params, place), index, reader, deltas)?;
-        tile.fill(&mut cube, bands, deltas);
+        tile.store(cube, deltas);
         places.go_by(tile.count() as u64);
     }
-    cube.prove_is_cube();
-    Ok(cube)
+    Ok(())
 }
 
 /// Tests the fill bits after the body: they are zeros, and fewer than an output word of `word` bytes has.

@@ -1,13 +1,11 @@
-//! The places that are decoded together: columns of one row, each with the bands of a group.
+//! The places that are read together: columns of one row, each with the bands of a group.
 
 ghost use Rattle.std.specs.Prelude.{◌≡◌, ◌+◌, ◌*◌, ◌^◌, ◌<◌, ◌≤◌, ℕ, length, slice_index, slice_index_or};
 ghost use Rattle.cube_core.specs.Order.{IsPlaceOf};
 ghost use Rattle.cube_core.specs.Tiles.{most_bands as bands_of_group};
-ghost use Rattle.header_bits.specs.declared.params.Params.{Params as Parameters};
 ghost use Rattle.header_bits.specs.Lawful.{IsLawful};
-ghost use Rattle.predict_core.specs.Precedence.{AreAlike};
 ghost use Rattle.file_decoding.specs.Decoding.{MayAskEach, GivesEach};
-ghost use Rattle.file_decoding.specs.Tiles.{IsTile, ComeTo, IsFilled, band_in, time_in};
+ghost use Rattle.file_decoding.specs.Tiles.{IsTile, HasStored, band_in, time_in};
 
 use crate::decoder::EntropyDecoder;
 use cube_core::cube::Cube;
@@ -15,7 +13,6 @@ use cube_core::fault::Fault;
 use cube_core::order::{Order, Place};
 use header_bits::bit_reader::BitReader;
 use header_bits::params::Params;
-use predict_core::band::Band;
 
 /// The greatest number of columns of a tile.
 pub(crate) const COLUMNS: usize = 64;
@@ -23,8 +20,7 @@ pub(crate) const COLUMNS: usize = 64;
 /// Places that follow one another in encoding order, from `place` on: so many columns of one row, each with so many
 /// bands.
 ///
-/// Residuals are read in encoding order. Once a tile's residuals are known, its samples are found band after band,
-/// along the row of each: so every order is decoded by runs.
+/// Residuals are read in encoding order, and stored band after band, along the row of each.
 #[derive(Clone, Copy)]
 pub(crate) struct Tile {
     pub(crate) place: Place,
@@ -111,28 +107,23 @@ impl Tile {
         Ok(())
     }
 
-    /// Writes the samples of these places, whose residuals are `deltas`, into the cube, and advances the bands by as many
-    /// columns.
+    /// Stores a number below 2^D at each of these places, as an offset from the least sample. The numbers come in encoding order.
     ///
-    /// Each of the tile's bands is at its first column. The cube's samples at places that come later are not read, and no
-    /// sample at a place before the tile is written.
-    pub(crate) fn fill(&self, cube: &mut Cube, bands: &mut [Band], deltas: &[u16])
+    /// No other sample changes.
+    pub(crate) fn store(&self, cube: &mut Cube, numbers: &[u16])
         requires few { (self.now.columns ≤ 64) × (self.now.bands ≤ 2 ^ 16) }
         requires columns { self.now.place.x + self.now.columns ≤ cube.old.shape.columns }
-        requires place { (1 ≤ self.now.columns) × IsPlaceOf cube.old.shape self.now.place }
-        requires inside { (self.now.place.z + self.now.bands ≤ cube.old.shape.bands) × (length bands.old ≡ cube.old.shape.bands) }
-        requires come { (p : Parameters) × ComeTo p cube.old self.now bands.old }
-        requires whole { length deltas.now ≡ self.now.columns * self.now.bands }
-        requires residuals_in { (k : ℕ) → k < length deltas.now → slice_index deltas.now k < 2 ^ cube.old.kind.bits }
-        ensures alike { AreAlike cube.old cube.new }
-        ensures many { length bands.new ≡ length bands.old }
-        ensures filled { (p : Parameters) → ComeTo p cube.old self.now bands.old → IsFilled p cube.old cube.new self.now bands.new deltas.now }
+        requires place { IsPlaceOf cube.old.shape self.now.place }
+        requires inside { self.now.place.z + self.now.bands ≤ cube.old.shape.bands }
+        requires whole { length numbers.now ≡ self.now.columns * self.now.bands }
+        requires numbers_in { (k : ℕ) → k < length numbers.now → slice_index numbers.now k < 2 ^ cube.old.kind.bits }
+        ensures { HasStored cube.old cube.new self.now numbers.now self.now.bands }
     {
+        cube.prove_is_cube();
         let Place { z, y, x } = self.place;
         for b in 0..self.bands {
-            let run = self.run_of(deltas, b);
-            let band = &mut bands[z as usize + b];
-            band.inverse_run(cube, y, x, &run[..self.columns]);
+            let run = self.run_of(numbers, b);
+            cube.set_run(z + b as u32, y, x, &run[..self.columns]);
         }
     }
 

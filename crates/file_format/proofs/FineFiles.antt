@@ -12,7 +12,7 @@ use Rattle.file_format.specs.Files.{after_body, fill_test, body_test, head_at, f
 use Rattle.file_format.specs.MinimumLength.{minimum_length_test}
 use Rattle.file_format.specs.Laws.{FineIsFile}
 use Rattle.file_format.proofs.FileLaws.{numbers_at, are_bodies, whole_file}
-use Rattle.file_format.proofs.Built.{built}
+use Rattle.predict_core.proofs.Built.{built}
 
 passes_on : {X : Type 0} (b : Bool) (fault : Fault) (x y : X) → (refuse_if b fault >> Ok x) ≡ Ok y → x ≡ y
 passes_on true fault x y e = absurd (cc)

@@ -1,4 +1,3 @@
-pub mod Built
 pub mod FileLaws
 pub mod FineFiles
 pub mod Packed

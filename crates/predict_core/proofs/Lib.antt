@@ -12,7 +12,11 @@ pub mod Frame
 pub mod Inverting
 pub mod InverseRuns
 pub mod Kept
+pub mod Built
 pub mod OneCube
+pub mod SameSamples
+pub mod Coded
+pub mod Inverted
 pub mod Gathered
 pub mod Numbers
 pub mod Opening

@@ -5,6 +5,7 @@ pub mod GroupLines
 pub mod GroupPieces
 pub mod GroupRooms
 pub mod OpenPart
+pub mod Inversion
 pub mod Largest
 pub mod LongRooms
 pub mod PredictorStates

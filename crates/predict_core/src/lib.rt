@@ -8,6 +8,7 @@ mod chain;
 mod fills;
 pub mod group;
 mod inverse_chain;
+pub mod inversion;
 mod known_run;
 pub mod laws;
 mod lines;

@@ -59,7 +59,7 @@ pub(crate) fn map_run(
 }
 
 /// Writes `count` offsets of a row from column `x` on into an array of zeros.
-fn copy_offsets(row: &[u16], x: usize, count: usize, offsets: &mut [u16; 64])
+pub(crate) fn copy_offsets(row: &[u16], x: usize, count: usize, offsets: &mut [u16; 64])
     requires few { count ≤ 64 }
     requires inside { x + count ≤ length row.now }
     requires clear { offsets.old ≡ replicate 64 0 }
