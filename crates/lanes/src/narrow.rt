@@ -1,6 +1,6 @@
 //! Steps of eight or sixteen numbers of 16 bits.
 
-ghost use Rattle.std.specs.Prelude.{◌≡◌, ◌<◌, ◌+◌, ◌*◌, ◌^◌, ℕ, pos, negsuc, ◌+ℤ◌, ◌-ℤ◌, ◌*ℤ◌, unsigned_abs, int_lt, if◌then◌else◌};
+ghost use Rattle.std.specs.Prelude.{◌≡◌, ◌<◌, ◌≤◌, ◌+◌, ◌-◌, ◌*◌, ◌^◌, ℕ, pos, negsuc, ◌+ℤ◌, ◌-ℤ◌, ◌*ℤ◌, unsigned_abs, int_lt, if◌then◌else◌};
 ghost use Rattle.std.specs.Int.{int_min, int_max};
 ghost use Rattle.lanes.specs.Lanes.{lane, held, halved};
 
@@ -76,4 +76,48 @@ pub fn within(a: i16x16, least: i16, most: i16) -> i16x16
 {
     a.simd_min(i16x16::splat(most))
         .simd_max(i16x16::splat(least))
+}
+
+/// Moves the lanes of `second` up by `by`, 1 to 7, and puts the last lanes of `first` before them: lane k is lane 8 - `by` + k of the two
+/// side by side.
+#[inline(always)]
+pub fn moved(first: i16x8, second: i16x8, by: usize) -> i16x8
+    requires { (1 ≤ by) × (by ≤ 7) }
+    ensures first { (k : ℕ) → k < by → lane result k ≡ lane first (8 + k - by) }
+    ensures second { (k : ℕ) → by ≤ k → k < 8 → lane result k ≡ lane second (k - by) }
+{
+    match by {
+        1 => first.shuffle(second, [7, 8, 9, 10, 11, 12, 13, 14]),
+        2 => first.shuffle(second, [6, 7, 8, 9, 10, 11, 12, 13]),
+        3 => first.shuffle(second, [5, 6, 7, 8, 9, 10, 11, 12]),
+        4 => first.shuffle(second, [4, 5, 6, 7, 8, 9, 10, 11]),
+        5 => first.shuffle(second, [3, 4, 5, 6, 7, 8, 9, 10]),
+        6 => first.shuffle(second, [2, 3, 4, 5, 6, 7, 8, 9]),
+        _ => first.shuffle(second, [1, 2, 3, 4, 5, 6, 7, 8]),
+    }
+}
+
+/// Returns the numbers of a row as a vector.
+#[inline(always)]
+pub fn vector_of(row: &[i16; 8]) -> i16x8
+    ensures { result ≡ row.now }
+{
+    let row = copied(row);
+    i16x8::from_array(row)
+}
+
+/// Returns the lanes of a vector as a row.
+#[inline(always)]
+pub fn row_of(vector: i16x8) -> [i16; 8]
+    ensures { result ≡ vector }
+{
+    vector.to_array()
+}
+
+/// Returns a copy of a row.
+#[inline(always)]
+fn copied(row: &[i16; 8]) -> [i16; 8]
+    ensures { result ≡ row.now }
+{
+    *row
 }
