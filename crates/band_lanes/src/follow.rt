@@ -35,14 +35,36 @@ pub fn follow_place<const Q: usize, const RAISED: bool, const LIMITED: bool>(
     ensures weights { (b : ℕ) → b < 8 → weights_of Q b weights.new ≡ updated_weights step.omega step.exponent (int_le (lane own.now b) (lane result b))
         (weights_of Q b weights.old) (components_of Q b pairs.now i) }
 {
-    let part = wide::held(predicted::<Q>(weights, pairs, i, step.omega)).to_array();
+    let part = predict_place::<Q>(weights, pairs, i, step);
     update_all::<Q, RAISED, LIMITED>(weights, pairs, own, &part, i, step);
     part
 }
 
-/// Updates the first `Q` pairs of weights after place `i`.
+/// Returns the predicted central differences of eight bands at place `i`, each held in 16 bits.
+///
+/// The first `Q` pairs of weights and components are used. Each component is below 2^(D+2) in size
+/// (CCSDS 123.0-B-1, "Prediction Calculation").
 #[inline(always)]
-fn update_all<const Q: usize, const RAISED: bool, const LIMITED: bool>(
+pub fn predict_place<const Q: usize>(
+    weights: &[[i16; 16]; MOST_PAIRS],
+    pairs: &[Pairs; MOST_PAIRS],
+    i: usize,
+    step: Step,
+) -> [i16; 8]
+    requires few { Q ≤ 9 }
+    requires place { i < 64 }
+    requires below { AreBelow (2 ^ (step.bits + 2)) Q pairs.now i }
+    ensures { (b : ℕ) → b < 8 → lane result b ≡ held_difference Q b step.omega weights.now pairs.now i }
+{
+    wide::held(predicted::<Q>(weights, pairs, i, step.omega)).to_array()
+}
+
+/// Updates the first `Q` pairs of weights after place `i`.
+///
+/// `own` are the central differences there, and `predicted` the predicted ones. Each component is below 2^(D+2) in size. `RAISED` says
+/// whether ρ is negative, and `LIMITED` whether weights have fewer than 16 bits (CCSDS 123.0-B-1, "Weight Update").
+#[inline(always)]
+pub fn update_all<const Q: usize, const RAISED: bool, const LIMITED: bool>(
     weights: &mut [[i16; 16]; MOST_PAIRS],
     pairs: &[Pairs; MOST_PAIRS],
     own: &[i16; 8],

@@ -1,8 +1,8 @@
 //! Components and weights in pairs: each row has two of each band side by side.
 
-ghost use Rattle.std.specs.Prelude.{◌≡◌, ◌+◌, ◌*◌, ◌<◌, ℕ, slice_index_or, []};
+ghost use Rattle.std.specs.Prelude.{◌≡◌, ◌≢◌, ◌+◌, ◌*◌, ◌<◌, ℕ, length, slice_index_or, []};
 ghost use Rattle.lanes.specs.Lanes.{lane, place};
-ghost use Rattle.band_lanes.specs.Rows.{row_at};
+ghost use Rattle.band_lanes.specs.Rows.{row_at, no_pairs};
 
 use lanes::narrow::paired;
 use lanes::turn::turn;
@@ -76,4 +76,33 @@ fn woven(even: &[i16; 8], odd: &[i16; 8]) -> [i16; 16]
     let even = band_row(even);
     let odd = band_row(odd);
     paired(i16x8::from_array(even), i16x8::from_array(odd)).to_array()
+}
+
+/// Writes pair `c` of place `i`: of each band, two components.
+#[inline(always)]
+pub fn put_pair(
+    pairs: &mut [Pairs; MOST_PAIRS],
+    c: usize,
+    i: usize,
+    even: &[i16; 8],
+    odd: &[i16; 8],
+)
+    requires pair { c < 9 }
+    requires place { i < 64 }
+    ensures long { length pairs.new ≡ 9 }
+    ensures even { (b : ℕ) → b < 8 → lane (row_at (slice_index_or pairs.new c no_pairs) i) (2 * b) ≡ lane even.now b }
+    ensures odd { (b : ℕ) → b < 8 → lane (row_at (slice_index_or pairs.new c no_pairs) i) (2 * b + 1) ≡ lane odd.now b }
+    ensures others { (k : ℕ) → k ≢ c → slice_index_or pairs.new k no_pairs ≡ slice_index_or pairs.old k no_pairs }
+{
+    let row = woven(even, odd);
+    put_row(&mut pairs[c], i, row);
+}
+
+/// Writes the row of place `i`.
+#[inline(always)]
+fn put_row(pairs: &mut Pairs, i: usize, row: [i16; 16])
+    requires { i < 64 }
+    ensures { row_at pairs.new i ≡ row }
+{
+    pairs.places[i] = row;
 }
