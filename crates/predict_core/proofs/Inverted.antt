@@ -10,15 +10,17 @@ use Rattle.std.proofs.Math.Arith.{digits_lt}
 use Rattle.cube_core.specs.Shape.{Sizes}
 use Rattle.cube_core.specs.Kind.{SampleKind, sample_of}
 use Rattle.cube_core.specs.Image.{Image, IsCube, IsPlace, sample_at}
+use Rattle.cube_core.specs.Runs.{IsRunSet}
 use Rattle.cube_core.proofs.Images.{same_cube}
 use Rattle.header_bits.specs.declared.params.Params.{Params}
 use Rattle.sample_prediction.specs.Residual.{mapped_residual, run_residuals}
 use Rattle.sample_prediction.specs.Prediction.{weight_vector}
 use Rattle.predict_core.specs.Following.{PredictorState, Follows, MovesBy}
 use Rattle.predict_core.specs.GroupRooms.{no_band}
-use Rattle.predict_core.specs.Inversion.{IsInverting, IsAtStart, IsCoded, IsBandInverted, HoldsResidual, band_at, AreAhead}
+use Rattle.predict_core.specs.Inversion.{IsInverting, IsAtStart, IsCoded, IsBandInverted, HoldsResidual, band_at, number_at, AreAhead}
 use Rattle.predict_core.specs.Precedence.{AreAlike, Agree}
 use Rattle.predict_core.specs.RunPlaces.{AreAlikeBeside}
+use Rattle.predict_core.proofs.Coded.{number_is}
 use Rattle.predict_core.proofs.Frame.{weights_same, agree_less}
 use Rattle.predict_core.proofs.Kept.{wide_of}
 use Rattle.predict_core.proofs.RunSteps.{run_at}
@@ -213,3 +215,68 @@ inverted_last {p} {c} {d} {bands} cube inv whole =
     same_cube c d inv.alike.shape inv.alike.kind cube inv.cube.cube (λ q place.
     let band : q.z < p.shape.bands = rw (inv.alike.shape ∙ inv.cube.shape) at place.band in
     (inv.each q.z band).done q.y q.x place (let within = digits_lt place.row place.column in let all = whole q.z band in omega (arith, within, all)))
+
+-- ---- a run whose samples are known
+
+module _ {p : Params} {c d e : Image} {bands : List PredictorState} {z y x n : ℕ} {new : PredictorState} {offsets : List ℕ} (inv : IsInverting p c d bands)
+    (shape : c.shape ≡ p.shape) (place : IsPlace c.shape z y x) (inside : x + n ≤ c.shape.columns) (at : (band_at bands z).t ≡ y * c.shape.columns + x)
+    (moved : MovesBy n (band_at bands z) new) (set-run : IsRunSet c e z y x offsets) (long : length offsets ≡ n)
+    (known : (i : ℕ) → i < n → slice_index offsets i ≡ number_at d z y (x + i)) (follows : Follows p new d) where
+  was : IsBandInverted p c d z (band_at bands z)
+  was = inv.each z (rw shape at place.band)
+
+  same_columns : c.shape.columns ≡ e.shape.columns
+  same_columns = ap (λ (s : Sizes). s.columns) (sym set-run.shape)
+
+  beside_run : (z' y' x' : ℕ) → IsPlace c.shape z' y' x' → (z' ≡ z → y' * c.shape.columns + x' < y * c.shape.columns + x) → sample_at c z' y' x' ≡ sample_at e z' y' x'
+  beside_run z' y' x' q before =
+      set-run.others z' y' x' q (λ f g h. absurd (let row = ap (λ (m : ℕ). m * c.shape.columns) g in omega (arith, before f, row, h)))
+
+  still_coded : (z' y' x' : ℕ) → sample_at c z' y' x' ≡ sample_at e z' y' x' → HoldsResidual p c d z' y' x' → HoldsResidual p e d z' y' x'
+  still_coded z' y' x' same holds =
+      sym same ∙ holds ∙ ap₂ (λ (k : SampleKind) (m : ℕ). sample_of k (mapped_residual p d z' (y' * m + x'))) (sym set-run.kind) same_columns
+
+  known_run : (i : ℕ) → i < n → sample_at e z y (x + i) ≡ sample_at d z y (x + i)
+  known_run i lt =
+      let there : IsPlace d.shape z y (x + i) = rw (← inv.alike.shape) (record { band = place.band; row = place.row; column = omega (arith, lt, inside) }) in
+      set-run.written i (omega (arith, lt, long)) ∙ ap₂ (λ (k : SampleKind) (m : ℕ). sample_of k m) inv.alike.kind (known i lt)
+      ∙ sym (number_is d z y (x + i) inv.cube.cube there)
+
+  now_done : (y' x' : ℕ) → IsPlace c.shape z y' x' → y' * c.shape.columns + x' < y * c.shape.columns + x + n → sample_at e z y' x' ≡ sample_at d z y' x'
+  now_done y' x' q l = elim (cases_lt (y' * c.shape.columns + x') (y * c.shape.columns + x)) [
+    | inl low ↦ sym (beside_run z y' x' q (λ f. low)) ∙ was.done y' x' q (omega (arith, at, low))
+    | inr high ↦
+        (let row : y' ≡ y = same_row c.shape.columns y' x' y x q.column (omega (arith, inside, l)) high (omega (arith, place.column)) in
+        let line = ap (λ (m : ℕ). m * c.shape.columns) row in
+        let column : x' ≡ x + (x' - x) = omega (arith, line, high) in
+        rw (row, column) (known_run (x' - x) (omega (arith, line, high, l))))
+  ]
+
+  pub known_inverted : IsInverting p e d (set bands z new)
+  known_inverted = record {
+    lawful = inv.lawful;
+    cube = inv.cube;
+    alike = record { shape = set-run.shape ∙ inv.alike.shape; kind = set-run.kind ∙ inv.alike.kind };
+    many = length-set bands z new ∙ inv.many;
+    each = λ z' lt. elim (cases_eq z' z) [
+      | inl here ↦ rw (here, get_or-set_same bands z new no_band (rw inv.many (rw shape at place.band))) (record {
+          band = moved.band ∙ was.band;
+          follows = follows;
+          done = λ y' x' q l. now_done y' x' (rw set-run.shape at q) (let m = rw (← same_columns) at l in omega (arith, m, moved.t, at));
+          coded = λ y' x' q l. (let there = rw set-run.shape at q in let m = rw (← same_columns) at l in
+              still_coded z y' x' (set-run.others z y' x' there (λ f g h. let row = ap (λ (k : ℕ). k * c.shape.columns) g in
+              omega (arith, row, m, moved.t, at, long))) (was.coded y' x' there (omega (arith, m, moved.t))));
+        })
+      | inr apart ↦ rw (get_or-set_other bands z z' new no_band apart) (other z' apart (inv.each z' lt))
+    ];
+  }
+    where
+      other : (z' : ℕ) → z' ≢ z → {b : PredictorState} → IsBandInverted p c d z' b → IsBandInverted p e d z' b
+      other z' apart before = record {
+        band = before.band;
+        follows = before.follows;
+        done = λ y' x' q l. (let there = rw set-run.shape at q in
+            sym (beside_run z' y' x' there (λ f. absurd (apart f))) ∙ before.done y' x' there (rw (← same_columns) at l));
+        coded = λ y' x' q l. (let there = rw set-run.shape at q in
+            still_coded z' y' x' (beside_run z' y' x' there (λ f. absurd (apart f))) (before.coded y' x' there (rw (← same_columns) at l)));
+      }

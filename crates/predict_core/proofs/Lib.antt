@@ -36,3 +36,8 @@ pub mod Runs
 pub mod RunChains
 pub mod WholeRuns
 pub mod Walking
+pub mod WaveParts
+pub mod WaveLanes
+pub mod WaveTiles
+pub mod WaveForms
+pub mod WaveRows

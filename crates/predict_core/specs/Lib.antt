@@ -15,3 +15,8 @@ pub mod RunPlaces
 pub mod Steps
 pub mod RunChains
 pub mod Walked
+pub mod Wave
+pub mod WaveSteps
+pub mod WaveLanes
+pub mod WaveTiles
+pub mod WaveRows

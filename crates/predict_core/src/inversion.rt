@@ -1,13 +1,18 @@
 //! Inverting the prediction of a whole cube in place: it holds mapped residuals, and then samples.
 
-ghost use Rattle.std.specs.Prelude.{◌≡◌, ◌+◌, ◌*◌, ◌<◌, ◌≤◌, length};
+ghost use Rattle.std.specs.Prelude.{◌≡◌, ◌+◌, ◌-◌, ◌*◌, ◌<◌, ◌≤◌, ℕ, true, false, length};
 ghost use Rattle.cube_core.specs.Image.{Image, IsPlace};
 ghost use Rattle.header_bits.specs.declared.params.Params.{Params as Parameters};
 ghost use Rattle.predict_core.specs.Precedence.{AreAlike};
 ghost use Rattle.predict_core.specs.Inversion.{IsAtStart, IsCoded, IsInverting, AreAhead, StandAt, AreKeptBeside, band_at};
+ghost use Rattle.predict_core.specs.WaveTiles.{IsFormOf, StandAsWave};
 
 use crate::band::Band;
 use crate::mapping::copy_offsets;
+use crate::wave::form::Form;
+use crate::wave::forms::form_of;
+use crate::wave::room::WaveRoom;
+use crate::wave::tile::invert_tile;
 use cube_core::cube::Cube;
 
 /// The most bands that are inverted together.
@@ -25,18 +30,25 @@ pub fn invert(bands: &mut [Band], cube: &mut Cube)
     ensures inverted { (p : Parameters) → IsAtStart p cube.old bands.old → IsCoded p cube.old cube.new }
 {
     cube.prove_is_cube();
+    let mut room = WaveRoom::new();
     let count = bands.len();
     let mut first = 0;
     while first < count {
         let last = count.min(first + MOST);
-        invert_group(bands, first, last, cube);
+        invert_group(bands, first, last, cube, &mut room);
         first = last;
     }
     cube.prove_is_cube();
 }
 
 /// Inverts the bands `first..last`, row after row. Those below them are inverted.
-fn invert_group(bands: &mut [Band], first: usize, last: usize, cube: &mut Cube)
+fn invert_group(
+    bands: &mut [Band],
+    first: usize,
+    last: usize,
+    cube: &mut Cube,
+    room: &mut WaveRoom,
+)
     requires inverting { (p : Parameters) × (d : Image) × IsInverting p cube.old d bands.old }
     requires order { (first ≤ last) × (last ≤ length bands.old) }
     requires start { StandAt bands.old first last 0 }
@@ -48,12 +60,19 @@ fn invert_group(bands: &mut [Band], first: usize, last: usize, cube: &mut Cube)
     ensures others { AreKeptBeside bands.old bands.new first last }
 {
     for y in 0..cube.shape().rows() {
-        invert_rows(bands, first, last, cube, y);
+        invert_rows(bands, first, last, cube, y, room);
     }
 }
 
-/// Inverts row `y` of the bands `first..last`, one after another.
-fn invert_rows(bands: &mut [Band], first: usize, last: usize, cube: &mut Cube, y: u32)
+/// Inverts row `y` of the bands `first..last`: eight of them as a wavefront where lanes of 16 bits are exact, and else one after another.
+fn invert_rows(
+    bands: &mut [Band],
+    first: usize,
+    last: usize,
+    cube: &mut Cube,
+    y: u32,
+    room: &mut WaveRoom,
+)
     requires inverting { (p : Parameters) × (d : Image) × IsInverting p cube.old d bands.old }
     requires order { (first ≤ last) × (last ≤ length bands.old) }
     requires row { y < cube.old.shape.rows }
@@ -65,17 +84,165 @@ fn invert_rows(bands: &mut [Band], first: usize, last: usize, cube: &mut Cube, y
     ensures moved { StandAt bands.new first last ((y + 1) * cube.old.shape.columns) }
     ensures others { AreKeptBeside bands.old bands.new first last }
 {
+    cube.prove_is_cube();
+    if last - first == MOST && y > 0 {
+        if let Some(form) = form_of(&bands[first], y) {
+            invert_wave(bands, first, cube, y, form, room);
+            return;
+        }
+    }
     for z in first..last {
-        invert_row(bands, z, cube, y);
+        invert_rest(bands, z, cube, y, 0);
     }
 }
 
-/// Inverts row `y` of band `z`.
-fn invert_row(bands: &mut [Band], z: usize, cube: &mut Cube, y: u32)
+/// Inverts row `y` of eight bands as a wavefront, but for both ends, where not all of them have a place at the same step.
+fn invert_wave(
+    bands: &mut [Band],
+    first: usize,
+    cube: &mut Cube,
+    y: u32,
+    form: Form,
+    room: &mut WaveRoom,
+)
+    requires inverting { (p : Parameters) × (d : Image) × IsInverting p cube.old d bands.old }
+    requires eight { first + 8 ≤ length bands.old }
+    requires row { (0 < y) × (y < cube.old.shape.rows) }
+    requires columns { 8 ≤ cube.old.shape.columns }
+    requires start { StandAt bands.old first (first + 8) (y * cube.old.shape.columns) }
+    requires ahead { AreAhead bands.old first ((y + 1) * cube.old.shape.columns) }
+    requires form { IsFormOf form (band_at bands.old first).predictor cube.old y }
+    ensures inverted { (p : Parameters) (d : Image) → IsInverting p cube.old d bands.old → IsInverting p cube.new d bands.new }
+    ensures alike { AreAlike cube.old cube.new }
+    ensures many { length bands.new ≡ length bands.old }
+    ensures moved { StandAt bands.new first (first + 8) ((y + 1) * cube.old.shape.columns) }
+    ensures others { AreKeptBeside bands.old bands.new first (first + 8) }
+{
+    start_wave(bands, first, cube, y);
+    let origin = invert_tiles(bands, first, cube, y, form, room);
+    end_wave(bands, first, cube, y, origin);
+}
+
+/// Inverts the first places of row `y` of eight bands, so that each has come a column less far than the one before.
+fn start_wave(bands: &mut [Band], first: usize, cube: &mut Cube, y: u32)
+    requires inverting { (p : Parameters) × (d : Image) × IsInverting p cube.old d bands.old }
+    requires eight { first + 8 ≤ length bands.old }
+    requires row { y < cube.old.shape.rows }
+    requires columns { 8 ≤ cube.old.shape.columns }
+    requires start { StandAt bands.old first (first + 8) (y * cube.old.shape.columns) }
+    requires ahead { AreAhead bands.old first ((y + 1) * cube.old.shape.columns) }
+    ensures inverted { (p : Parameters) (d : Image) → IsInverting p cube.old d bands.old → IsInverting p cube.new d bands.new }
+    ensures alike { AreAlike cube.old cube.new }
+    ensures many { length bands.new ≡ length bands.old }
+    ensures stand { StandAsWave bands.new first cube.old.shape.columns y 0 }
+    ensures others { AreKeptBeside bands.old bands.new first (first + 8) }
+{
+    for b in 0..8usize {
+        invert_run(bands, first + b, cube, y, 0, 8 - b);
+    }
+}
+
+/// Inverts the rest of row `y` of eight bands that have come as far as at step 8 of a wavefront.
+fn end_wave(bands: &mut [Band], first: usize, cube: &mut Cube, y: u32, origin: usize)
+    requires inverting { (p : Parameters) × (d : Image) × IsInverting p cube.old d bands.old }
+    requires eight { first + 8 ≤ length bands.old }
+    requires row { y < cube.old.shape.rows }
+    requires inside { origin + 8 ≤ cube.old.shape.columns }
+    requires stand { StandAsWave bands.old first cube.old.shape.columns y origin }
+    requires ahead { AreAhead bands.old first ((y + 1) * cube.old.shape.columns) }
+    ensures inverted { (p : Parameters) (d : Image) → IsInverting p cube.old d bands.old → IsInverting p cube.new d bands.new }
+    ensures alike { AreAlike cube.old cube.new }
+    ensures many { length bands.new ≡ length bands.old }
+    ensures moved { StandAt bands.new first (first + 8) ((y + 1) * cube.old.shape.columns) }
+    ensures others { AreKeptBeside bands.old bands.new first (first + 8) }
+{
+    cube.prove_is_cube();
+    for b in 0..8usize {
+        let x = (origin + 8 - b) as u32;
+        invert_rest(bands, first + b, cube, y, x);
+    }
+}
+
+/// Inverts row `y` of eight bands, piece after piece, as far as all of them are inside of it, and returns the origin of the step that
+/// they have come to. It ends before where 16 bits don't hold their weights.
+fn invert_tiles(
+    bands: &mut [Band],
+    first: usize,
+    cube: &mut Cube,
+    y: u32,
+    form: Form,
+    room: &mut WaveRoom,
+) -> usize
+    requires inverting { (p : Parameters) × (d : Image) × IsInverting p cube.old d bands.old }
+    requires eight { first + 8 ≤ length bands.old }
+    requires row { (0 < y) × (y < cube.old.shape.rows) }
+    requires columns { 8 ≤ cube.old.shape.columns }
+    requires stand { StandAsWave bands.old first cube.old.shape.columns y 0 }
+    requires ahead { AreAhead bands.old first ((y + 1) * cube.old.shape.columns) }
+    requires form { IsFormOf form (band_at bands.old first).predictor cube.old y }
+    ensures inverted { (p : Parameters) (d : Image) → IsInverting p cube.old d bands.old → IsInverting p cube.new d bands.new }
+    ensures alike { AreAlike cube.old cube.new }
+    ensures many { length bands.new ≡ length bands.old }
+    ensures inside { result + 8 ≤ cube.old.shape.columns }
+    ensures stand { StandAsWave bands.new first cube.old.shape.columns y result }
+    ensures others { AreKeptBeside bands.old bands.new first (first + 8) }
+{
+    cube.prove_is_cube();
+    let columns = cube.shape().columns() as usize;
+    let mut origin = 0;
+    while origin + 9 < columns {
+        let last = 63.min(columns - 1 - origin);
+        if !invert_by(bands, first, cube, y, origin, last, form, room) {
+            return origin;
+        }
+        origin += last - 8;
+    }
+    origin
+}
+
+/// `invert_tile` with as many pairs as hold the components.
+fn invert_by(
+    bands: &mut [Band],
+    first: usize,
+    cube: &mut Cube,
+    y: u32,
+    origin: usize,
+    last: usize,
+    form: Form,
+    room: &mut WaveRoom,
+) -> bool
+    requires inverting { (p : Parameters) × (d : Image) × IsInverting p cube.old d bands.old }
+    requires eight { first + 8 ≤ length bands.old }
+    requires row { (0 < y) × (y < cube.old.shape.rows) }
+    requires last { (8 ≤ last) × (last ≤ 63) }
+    requires inside { origin + last < cube.old.shape.columns }
+    requires stand { StandAsWave bands.old first cube.old.shape.columns y origin }
+    requires ahead { AreAhead bands.old first ((y + 1) * cube.old.shape.columns) }
+    requires form { IsFormOf form (band_at bands.old first).predictor cube.old y }
+    ensures inverted { (p : Parameters) (d : Image) → IsInverting p cube.old d bands.old → IsInverting p cube.new d bands.new }
+    ensures alike { AreAlike cube.old cube.new }
+    ensures many { length bands.new ≡ length bands.old }
+    ensures moved { result ≡ true → (b : ℕ) → b < 8 → (band_at bands.new (first + b)).t ≡ (band_at bands.old (first + b)).t + (last - 8) }
+    ensures kept { result ≡ false → bands.new ≡ bands.old }
+    ensures others { AreKeptBeside bands.old bands.new first (first + 8) }
+{
+    match form.pairs {
+        0 | 1 => invert_tile::<1>(bands, first, cube, y, origin, last, form, room),
+        2 => invert_tile::<2>(bands, first, cube, y, origin, last, form, room),
+        3 => invert_tile::<3>(bands, first, cube, y, origin, last, form, room),
+        4 => invert_tile::<4>(bands, first, cube, y, origin, last, form, room),
+        5 => invert_tile::<5>(bands, first, cube, y, origin, last, form, room),
+        _ => invert_tile::<9>(bands, first, cube, y, origin, last, form, room),
+    }
+}
+
+/// Inverts row `y` of band `z` from column `x` on.
+fn invert_rest(bands: &mut [Band], z: usize, cube: &mut Cube, y: u32, x: u32)
     requires inverting { (p : Parameters) × (d : Image) × IsInverting p cube.old d bands.old }
     requires band { z < length bands.old }
     requires row { y < cube.old.shape.rows }
-    requires start { (band_at bands.old z).t ≡ y * cube.old.shape.columns }
+    requires inside { x ≤ cube.old.shape.columns }
+    requires start { (band_at bands.old z).t ≡ y * cube.old.shape.columns + x }
     requires ahead { AreAhead bands.old z ((y + 1) * cube.old.shape.columns) }
     ensures inverted { (p : Parameters) (d : Image) → IsInverting p cube.old d bands.old → IsInverting p cube.new d bands.new }
     ensures alike { AreAlike cube.old cube.new }
@@ -84,7 +251,7 @@ fn invert_row(bands: &mut [Band], z: usize, cube: &mut Cube, y: u32)
     ensures others { AreKeptBeside bands.old bands.new z (z + 1) }
 {
     let columns = cube.shape().columns();
-    let mut x = 0u32;
+    let mut x = x;
     while x < columns {
         let count = RUN.min((columns - x) as usize);
         invert_run(bands, z, cube, y, x, count);

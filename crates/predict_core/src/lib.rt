@@ -20,6 +20,7 @@ mod room;
 mod run;
 mod run_inverse;
 mod settings;
+pub(crate) mod wave;
 mod west;
 
 pub use sample_prediction::{predictor, residual, worked};

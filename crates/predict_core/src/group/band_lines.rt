@@ -342,7 +342,7 @@ fn fill_components(
 }
 
 /// Writes zeros into a line.
-fn clear_line(line: &mut [i16; 64])
+pub(crate) fn clear_line(line: &mut [i16; 64])
     ensures { (i : ℕ) → i < 64 → slice_index_or line.new i (pos 0) ≡ pos 0 }
 {
     *line = [0; 64];

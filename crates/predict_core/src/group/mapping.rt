@@ -102,7 +102,7 @@ fn number_of_offset(greatest: i16, part: i16, sum: i16, offset: u16) -> u16
 ///
 /// Where 16 bits don't hold the sum of both, what they hold lies on the same side of the range, and far beyond it.
 #[inline(always)]
-fn scaled_offset(greatest: i16, part: i16, sum: i16) -> i16
+pub(crate) fn scaled_offset(greatest: i16, part: i16, sum: i16) -> i16
     requires greatest_in { (pos 1 ≤ℤ greatest) × (greatest ≤ℤ pos 4095) }
     ensures bounds { (pos 0 ≤ℤ result) × (result ≤ℤ (pos 2 *ℤ greatest +ℤ pos 1)) }
     ensures value { result ≡ clip (floor_div (part +ℤ sum) 2 +ℤ pos 1) (pos 0) (pos 2 *ℤ greatest +ℤ pos 1) }
@@ -121,7 +121,7 @@ fn held_sum(part: i16, sum: i16) -> i16
 
 /// Returns half a number, rounded down.
 #[inline(always)]
-fn half_of(twice: i16) -> i16
+pub(crate) fn half_of(twice: i16) -> i16
     ensures value { result ≡ floor_div twice 2 }
     ensures low { (pos 2 *ℤ result) ≤ℤ twice }
     ensures high { twice ≤ℤ (pos 2 *ℤ result +ℤ pos 1) }
@@ -156,7 +156,7 @@ fn apart(offset: i16, value: i16) -> i16
 
 /// Returns the distance of an offset from the nearer end of the range.
 #[inline(always)]
-fn nearer(greatest: i16, value: i16) -> i16
+pub(crate) fn nearer(greatest: i16, value: i16) -> i16
     requires greatest_in { greatest ≤ℤ pos 4095 }
     requires value_in { (pos 0 ≤ℤ value) × (value ≤ℤ greatest) }
     ensures value { result ≡ pos (theta_between (pos 0) greatest value) }

@@ -136,7 +136,7 @@ fn long_lanes_of(band: &Band) -> (bool, usize)
 }
 
 /// Returns whether lanes of 16 bits are exact for some parameters.
-fn is_narrow(settings: &Settings) -> bool
+pub(crate) fn is_narrow(settings: &Settings) -> bool
     ensures { result ≡ true → IsNarrow settings.now.predictor settings.now.range.bits }
 {
     let predictor = &settings.predictor;
@@ -166,7 +166,7 @@ fn most_components(settings: &Settings) -> usize
 }
 
 /// Returns how many pairs hold the components of any band.
-fn pairs_of(settings: &Settings) -> usize
+pub(crate) fn pairs_of(settings: &Settings) -> usize
     ensures few { result ≤ 9 }
     ensures enough { (z : ℕ) → component_count settings.now.predictor z ≤ 2 * result }
 {

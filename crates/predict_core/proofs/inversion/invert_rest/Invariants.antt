@@ -3,7 +3,7 @@ use Rattle.cube_core.specs.Image.{Image}
 use Rattle.header_bits.specs.declared.params.Params.{Params}
 use Rattle.predict_core.specs.Inversion.{IsInverting, AreKeptBeside, band_at}
 use Rattle.predict_core.specs.Precedence.{AreAlike}
-use Rattle.predict_core.proofs.inversion.invert_row.Given as goal
+use Rattle.predict_core.proofs.inversion.invert_rest.Given as goal
 
 abbrev pub invariant-loop-x : goal.invariant-loop-x
 invariant-loop-x l = record {

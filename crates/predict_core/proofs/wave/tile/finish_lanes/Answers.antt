@@ -1,0 +1,38 @@
+use Rattle.std.proofs.Common.{◌≡◌, ◌∙◌, ◌+◌, ◌-◌, ◌*◌, ◌<◌, ◌≤◌, ℕ, pos, sym, ap, ap₂, arith, length, take, inl, inr}
+use Rattle.std.proofs.lemmas.Bool.{cases_eq}
+use Rattle.cube_core.specs.Shape.{Sizes}
+use Rattle.band_lanes.specs.Rows.{weights_of}
+use Rattle.sample_prediction.specs.Prediction.{weight_vector}
+use Rattle.predict_core.specs.Following.{PredictorState}
+use Rattle.predict_core.specs.Inversion.{band_at, number_at}
+use Rattle.predict_core.specs.WaveLanes.{column_at}
+use Rattle.predict_core.proofs.wave.tile.finish_lanes.Goals as goal
+
+pub loop-b-preserved : goal.loop-b-preserved
+loop-b-preserved g c =
+    let kept = c.loop-b.invariant in let did = c.finish_lane.ensures in
+    let b : ℕ = c.loop-b.b in let z : ℕ = c.args.first + b in
+    let fits : b < 8 = c.loop-b-test.true in
+    let same : band_at c.loop-b.bands z ≡ band_at c.args.bands.now z = kept.others z (λ low. omega arith) in
+    let columns = ap (λ (s : Sizes). s.columns) kept.alike.shape in
+    record {
+      inverted = λ p d inv.
+          did.inverted p d (kept.inverted p d inv)
+          (λ i low high.
+          let column : c.args.origin + 8 - b + (i - 8) ≡ column_at c.args.origin i b = omega (arith, low, fits) in
+          c.requires.found.offsets p d inv b i fits low high ∙ ap (λ (x : ℕ). pos (number_at d z c.args.y x)) (sym column))
+          (let column : c.args.origin + 8 - b + (c.args.last - 8) ≡ column_at c.args.origin c.args.last b = omega (arith, fits, c.requires.last.0) in
+          let time : c.args.y * c.args.cube.now.shape.columns + column_at c.args.origin c.args.last b
+          ≡ c.args.y * c.loop-b.cube.shape.columns + (c.args.origin + 8 - b) + (c.args.last - 8) =
+          ap₂ (λ (m x : ℕ). c.args.y * m + x) columns (sym column) ∙ (omega arith) in
+          ap (λ (v : PredictorState). take (length v.weights) (weights_of g.row.Q b c.args.room.now.weights)) same
+          ∙ c.requires.found.weights_at p d inv b fits ∙ ap (weight_vector p d z) time);
+      alike = record { shape = kept.alike.shape ∙ did.alike.shape; kind = kept.alike.kind ∙ did.alike.kind };
+      many = did.many ∙ kept.many;
+      moved = λ k lt. elim (cases_eq k b) [
+        | inl here ↦ rw here (rw same at did.moved)
+        | inr apart ↦ rw (did.others (c.args.first + k) (λ low. absurd (omega (arith, low, lt, apart)))) (kept.moved k (omega (arith, lt, apart)))
+      ];
+      others = λ z' out. did.others z' (λ low. (let o = out (omega (arith, low)) in omega (arith, o)))
+          ∙ kept.others z' (λ low. (let o = out low in omega (arith, o)));
+    }

@@ -1,0 +1,55 @@
+-- Eight bands in a wavefront over a row of an image d: in step k, lane b is band `first + b`, at column `origin + k - b`.
+use Rattle.std.specs.Prelude.{ℕ, ◌≡◌, ◌+◌, ◌-◌, ◌*◌, ◌^◌, ◌<◌, ◌≤◌, nat_le, ℤ, pos, ◌+ℤ◌, List, take, if◌then◌else◌}
+use Rattle.header_bits.specs.declared.params.Params.{Params}
+use Rattle.cube_core.specs.Kind.{smin, smax, sample_of}
+use Rattle.cube_core.specs.Image.{Image, IsCube, sample_at}
+use Rattle.lanes.specs.Lanes.{place}
+use Rattle.band_lanes.specs.Rows.{weights_of}
+use Rattle.sample_prediction.specs.Bounds.{AllWithin}
+use Rattle.sample_prediction.specs.Chain.{AreWeightsAt}
+use Rattle.sample_prediction.specs.Differences.{central_difference}
+use Rattle.sample_prediction.specs.Residual.{mapped_residual}
+use Rattle.sample_prediction.specs.declared.predictor.Predictor.{Predictor}
+use Rattle.predict_core.specs.declared.settings.Settings.{Settings}
+use Rattle.predict_core.specs.declared.wave.form.Form.{Form}
+use Rattle.predict_core.specs.Inversion.{number_at}
+use Rattle.predict_core.specs.Largest.{NeverWraps}
+use Rattle.predict_core.specs.RunChains.{AreStepsThere}
+
+-- the column of lane b in step k
+abbrev pub column_at : ℕ → ℕ → ℕ → ℕ
+column_at origin k b = origin + k - b
+
+-- the constants of the bands, and what doesn't change from step 8 to step `last`: the row above, the central differences of the eight bands below (0 where
+-- there is no band), and the form
+pub record AreLanes (q : ℕ) (f : Form) (p : Params) (s : ℕ → Settings) (d : Image) (first y origin last : ℕ) (above lower : List (List ℤ)) : Type 0 where
+  pub cube : IsCube d
+  pub row : (0 < y) × (y < d.shape.rows)
+  pub inside : origin + last < d.shape.columns
+  pub most : last ≤ 63
+  pub few : q ≤ 9
+  pub bands : (b : ℕ) → b < 8 → ((s b).band ≡ first + b) × (first + b < d.shape.bands)
+  pub predictor : (b : ℕ) → b < 8 → (s b).predictor ≡ (s 0).predictor
+  pub columns : (b : ℕ) → b < 8 → d.shape.columns ≡ (s b).columns
+  pub kind : (b : ℕ) → b < 8 → d.kind ≡ (s b).range.kind
+  pub enough : (b : ℕ) → b < 8 → (s b).count ≤ 2 * q
+  pub register : (b : ℕ) → b < 8 → NeverWraps (s b).predictor d.kind.bits (s b).count
+  pub omega_in : (s 0).predictor.omega ≤ 13
+  pub bits : d.kind.bits ≤ 12
+  pub reduced : f.reduced ≡ (s 0).predictor.reduced
+  pub column : f.column ≡ (s 0).predictor.column
+  pub previous : f.previous ≡ (s 0).predictor.previous
+  pub greatest : smin d.kind +ℤ f.greatest ≡ smax d.kind
+  pub steps : (b k : ℕ) → b < 8 → 8 ≤ k → k < last → AreStepsThere (s b) d f.step.omega f.step.bits f.step.exponent y (column_at origin k b)
+  pub north : (i b : ℕ) → 7 ≤ i → i ≤ last → b < 8 → place above i b ≡ pos (number_at d (first + b) (y - 1) (column_at origin i b))
+  pub below : (i b : ℕ) → 1 ≤ i → i < last → b < 8 → column_at origin (i + 8) b + 1 < d.shape.columns
+      → place lower i b ≡ (if nat_le 8 (first + b) then central_difference (s 0).predictor d (first + b - 8) y (column_at origin (i + 8) b) else pos 0)
+
+-- what has been found before step k: the offsets of the bands up to there, from which their central differences come, and the weights; the residuals from there
+-- on are as they were
+pub record AreInStep (q : ℕ) (p : Params) (s : ℕ → Settings) (d : Image) (first y origin last k : ℕ) (numbers own weights : List (List ℤ)) : Type 0 where
+  pub offsets : (i b : ℕ) → 7 ≤ i → i < k → b < 8 → place numbers i b ≡ pos (number_at d (first + b) y (column_at origin i b))
+  pub residuals : (i b : ℕ) → k ≤ i → i < last → b < 8
+      → place numbers i b ≡ pos (mapped_residual p d (first + b) (y * d.shape.columns + column_at origin i b))
+  pub centrals : (i b : ℕ) → b < i → i < k → b < 8 → place own i b ≡ central_difference (s 0).predictor d (first + b) y (column_at origin i b)
+  pub weights_at : (b : ℕ) → b < 8 → AreWeightsAt p (s b).predictor d (first + b) (y * d.shape.columns + column_at origin k b) (take (s b).count (weights_of q b weights))

@@ -1,0 +1,79 @@
+//! The components of one place of eight bands, in pairs.
+
+ghost use Rattle.std.specs.Prelude.{◌≡◌, ◌≢◌, ◌+◌, ◌-◌, ◌*◌, ◌<◌, ◌≤◌, ℕ, Bool, length, slice_index_or, if◌then◌else◌};
+ghost use Rattle.lanes.specs.Lanes.{lane, place};
+ghost use Rattle.band_lanes.specs.Rows.{row_at, no_pairs, AreBelow};
+ghost use Rattle.predict_core.specs.Wave.{AreRowsBelow, component_in, lagged_in};
+
+use crate::band::first_spectral;
+use band_lanes::pairs::{MOST_PAIRS, Pairs, put_pair};
+use lanes::narrow::{moved, row_of, vector_of};
+
+/// Writes the components of eight bands at step `k` into the first `Q` pairs, at place 0.
+///
+/// `directions` are the directional differences, which come first if the mode isn't reduced, and `previous` is the greatest number of previous
+/// bands whose central differences follow. Those of the bands of the wavefront are `own`, and those of the eight bands below them are
+/// `lower`: in row i, each band is at the column that a wavefront has come to at step i (CCSDS 123.0-B-1, "Local Differences").
+#[inline(always)]
+pub(crate) fn put_components<const Q: usize>(
+    reduced: bool,
+    previous: usize,
+    directions: &[[i16; 8]; 3],
+    lower: &[[i16; 8]; 64],
+    own: &[[i16; 8]; 64],
+    k: usize,
+    pairs: &mut [Pairs; MOST_PAIRS],
+)
+    requires few { Q ≤ 9 }
+    requires previous { previous ≤ 7 }
+    requires step { (7 ≤ k) × (k < 64) }
+    ensures long { length pairs.new ≡ 9 }
+    ensures even { (c b : ℕ) → c < Q → b < 8 → lane (row_at (slice_index_or pairs.new c no_pairs) 0) (2 * b)
+        ≡ component_in reduced previous directions.now lower.now own.now k (2 * c) b }
+    ensures odd { (c b : ℕ) → c < Q → b < 8 → lane (row_at (slice_index_or pairs.new c no_pairs) 0) (2 * b + 1)
+        ≡ component_in reduced previous directions.now lower.now own.now k (2 * c + 1) b }
+{
+    for c in 0..Q {
+        let even = component(reduced, previous, directions, lower, own, k, 2 * c);
+        let odd = component(reduced, previous, directions, lower, own, k, 2 * c + 1);
+        put_pair(pairs, c, 0, &even, &odd);
+    }
+}
+
+/// Returns a component of eight bands: 0 after the last.
+#[inline(always)]
+fn component(
+    reduced: bool,
+    previous: usize,
+    directions: &[[i16; 8]; 3],
+    lower: &[[i16; 8]; 64],
+    own: &[[i16; 8]; 64],
+    k: usize,
+    index: usize,
+) -> [i16; 8]
+    requires previous { previous ≤ 7 }
+    requires step { (7 ≤ k) × (k < 64) }
+    requires index { index < 18 }
+    ensures { (b : ℕ) → b < 8 → lane result b ≡ component_in reduced previous directions.now lower.now own.now k index b }
+{
+    let first = first_spectral(reduced);
+    if index < first {
+        directions[index]
+    } else if index - first < previous {
+        lagged(lower, own, k, index - first + 1)
+    } else {
+        [0; 8]
+    }
+}
+
+/// Returns the central differences of the band `lag` below each band, at the same column.
+#[inline(always)]
+fn lagged(lower: &[[i16; 8]; 64], own: &[[i16; 8]; 64], k: usize, lag: usize) -> [i16; 8]
+    requires lag { (1 ≤ lag) × (lag ≤ 7) }
+    requires step { (7 ≤ k) × (k < 64) }
+    ensures { (b : ℕ) → b < 8 → lane result b ≡ lagged_in lower.now own.now k lag b }
+{
+    let lower = vector_of(&lower[k - lag]);
+    let own = vector_of(&own[k - lag]);
+    row_of(moved(lower, own, lag))
+}

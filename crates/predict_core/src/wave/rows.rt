@@ -1,0 +1,87 @@
+//! The rows of a wavefront, from the samples of a cube.
+
+ghost use Rattle.std.specs.Prelude.{◌≡◌, ◌≢◌, ◌+◌, ◌-◌, ◌*◌, ◌^◌, ◌<◌, ◌≤◌, ℕ, ℤ, pos, ◌+ℤ◌, ◌-ℤ◌, ◌*ℤ◌, ◌≤ℤ◌, length, slice_index, slice_index_or};
+ghost use Rattle.cube_core.specs.Image.{IsPlace};
+ghost use Rattle.lanes.specs.Lanes.{place};
+ghost use Rattle.predict_core.specs.Inversion.{number_at};
+ghost use Rattle.predict_core.specs.Wave.{AreOffsetRows};
+ghost use Rattle.predict_core.specs.WaveLanes.{column_at};
+ghost use Rattle.predict_core.specs.WaveRows.{AreRowsOf, IsSkewed};
+
+use crate::group::band_lines::clear_line;
+use cube_core::cube::Cube;
+use lanes::turn::turn;
+
+/// Writes 64 rows of eight lanes: in row i, lane b has the offset at column `origin + below + i - b` of row `y` of the band that is
+/// `below` bands below band `first + b`, or 0 where there is no such band or column.
+pub(crate) fn fill_rows(
+    cube: &Cube,
+    first: usize,
+    below: usize,
+    y: u32,
+    origin: usize,
+    lines: &mut [[i16; 64]; 8],
+    rows: &mut [[i16; 8]; 64],
+)
+    requires below { below ≤ 8 }
+    requires bands { first + 8 ≤ cube.now.shape.bands }
+    requires row { y < cube.now.shape.rows }
+    requires origin { origin ≤ 65536 }
+    requires bits { cube.now.kind.bits ≤ 12 }
+    ensures numbers { AreRowsOf cube.now first below y origin rows.new }
+    ensures within { AreOffsetRows (pos (2 ^ cube.now.kind.bits) -ℤ pos 1) rows.new }
+{
+    cube.prove_is_cube();
+    for b in 0..8usize {
+        fill_line(cube, first + b, below, y, origin, b, lines);
+    }
+    turn(lines, rows);
+}
+
+/// Writes line `b`: that of the band that is `below` bands below band `z`.
+fn fill_line(
+    cube: &Cube,
+    z: usize,
+    below: usize,
+    y: u32,
+    origin: usize,
+    b: usize,
+    lines: &mut [[i16; 64]; 8],
+)
+    requires lane { b < 8 }
+    requires below { below ≤ 8 }
+    requires band { z < cube.now.shape.bands }
+    requires row { y < cube.now.shape.rows }
+    requires origin { origin ≤ 65536 }
+    requires bits { cube.now.kind.bits ≤ 12 }
+    ensures numbers { (i : ℕ) → i < 64 → below ≤ z → b ≤ origin + below + i → column_at (origin + below) i b < cube.now.shape.columns
+        → place lines.new b i ≡ pos (number_at cube.now (z - below) y (column_at (origin + below) i b)) }
+    ensures none { (i : ℕ) → i < 64 → z < below → place lines.new b i ≡ pos 0 }
+    ensures within { (i : ℕ) → i < 64 → (pos 0 ≤ℤ place lines.new b i) × (place lines.new b i ≤ℤ (pos (2 ^ cube.now.kind.bits) -ℤ pos 1)) }
+    ensures others { (k i : ℕ) → k ≢ b → place lines.new k i ≡ place lines.old k i }
+{
+    cube.prove_is_cube();
+    if z < below {
+        clear_line(&mut lines[b]);
+    } else {
+        let row = cube.row((z - below) as u32, y);
+        skew(row, origin + below, b, &mut lines[b]);
+    }
+}
+
+/// Writes a row from column `origin - b` on, with zeros where there is no column.
+fn skew(row: &[u16], origin: usize, b: usize, line: &mut [i16; 64])
+    requires lane { b < 8 }
+    requires origin { origin ≤ 65544 }
+    requires columns { length row.now ≤ 65536 }
+    requires small { (x : ℕ) → x < length row.now → slice_index row.now x < 2 ^ 12 }
+    ensures { IsSkewed row.now origin b line.new }
+{
+    let first = b.saturating_sub(origin);
+    let from = origin + first - b;
+    let count = (64 - first).min(row.len().saturating_sub(from));
+    clear_line(line);
+    for i in 0..count {
+        line[first + i] = row[from + i] as i16;
+    }
+}
