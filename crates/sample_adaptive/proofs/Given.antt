@@ -13,15 +13,13 @@ use Rattle.header_bits.specs.declared.params.Params.{Params}
 use Rattle.header_bits.specs.Bits.{Unread}
 use Rattle.header_bits.specs.Reading.{Reads}
 use Rattle.sample_adaptive.specs.Statistics.{CoderSettings}
-use Rattle.sample_adaptive.specs.Words.{code_at}
 use Rattle.sample_adaptive.specs.Body.{band_residuals, words_after, sample_body}
-use Rattle.sample_adaptive.specs.Reading.{word_at, words_at, sample_body_at}
+use Rattle.sample_adaptive.specs.Reading.{words_at, sample_body_at}
 use Rattle.sample_adaptive.specs.Taken.{CoderState, HasTaken, AreEach, GetsEach}
 use Rattle.sample_adaptive.specs.Given.{AreRead, HasGiven, IsNext, GivesMore, places_of}
 use Rattle.sample_adaptive.proofs.Bodies.{AreWords, words_again, words_takes, words_at_append}
 use Rattle.sample_adaptive.specs.Settings.{IsSample, settings}
 use Rattle.sample_adaptive.proofs.ForSamples.{settings_bits}
-use Rattle.sample_adaptive.proofs.Taking.{taken_along}
 
 -- ---- what was given
 

@@ -13,3 +13,4 @@ pub mod stats;
 pub mod worked;
 pub mod worked_refusals;
 pub mod written_column;
+pub mod written_run;

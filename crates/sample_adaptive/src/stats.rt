@@ -12,9 +12,10 @@ ghost use Rattle.sample_adaptive.specs.Words.{code_word};
 
 use crate::band_state::BandState;
 use crate::code_settings::CodeSettings;
-use crate::run_words::{LaterRun, make_room, put_words, take_words};
+use crate::run_words::take_words;
 use crate::statistics::{Rescaling, first};
 use crate::written_column::next_word;
+use crate::written_run::{LaterRun, make_room, put_words};
 use core::mem::replace_with;
 use cube_core::fault::Fault;
 use header_bits::bit_reader::BitReader;

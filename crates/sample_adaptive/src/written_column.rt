@@ -11,8 +11,8 @@ ghost use Rattle.sample_adaptive.specs.BandStates.{IsBandState, AreBandStates, s
 use crate::band_state::BandState;
 use crate::code_settings::CodeSettings;
 use crate::code_word::{Code, Word, push_both, word_of};
-use crate::run_words::make_room;
 use crate::stats::Stats;
+use crate::written_run::make_room;
 use core::mem::replace;
 use cube_core::fault::Fault;
 use header_bits::bit_writer::BitWriter;

@@ -1,5 +1,5 @@
 use Rattle.std.proofs.Common.{rules, arith}
-use Rattle.sample_adaptive.proofs.run_words.make_room.Goals as goal
+use Rattle.sample_adaptive.proofs.written_run.make_room.Goals as goal
 
 pub returns-clause-bounded : goal.returns-clause-bounded
 returns-clause-bounded c = omega arith

@@ -5,7 +5,7 @@ use Rattle.sample_adaptive.specs.Statistics.{code_parameter}
 use Rattle.sample_adaptive.specs.Words.{code_word}
 use Rattle.sample_adaptive.proofs.Running.{same_band, two_words}
 use Rattle.sample_adaptive.proofs.Writing.{run_more}
-use Rattle.sample_adaptive.proofs.run_words.put_words.Goals as goal
+use Rattle.sample_adaptive.proofs.written_run.put_words.Goals as goal
 
 pub loop-i-init : goal.loop-i-init
 loop-i-init c =

@@ -1,7 +1,7 @@
 use Rattle.std.proofs.Common.{◌≡◌, ◌<◌, ◌+◌, ◌-◌, ◌*◌, ◌≤◌, ℕ, length, take}
 use Rattle.sample_adaptive.specs.Taken.{CoderState, HasSettings, Writes, of_band, with_band}
 use Rattle.sample_adaptive.specs.BandStates.{IsBandState}
-use Rattle.sample_adaptive.proofs.run_words.put_words.Given as goal
+use Rattle.sample_adaptive.proofs.written_run.put_words.Given as goal
 
 abbrev pub invariant-loop-i : goal.invariant-loop-i
 invariant-loop-i l =
