@@ -63,7 +63,7 @@ next_in_range gamma_star s residual least h small =
 
 -- ---- the code parameter
 
-twice_power : (counter k : ℕ) → counter * 2 ^ (k + 1) ≡ 2 * (counter * 2 ^ k)
+pub twice_power : (counter k : ℕ) → counter * 2 ^ (k + 1) ≡ 2 * (counter * 2 ^ k)
 twice_power counter k = let e : 2 ^ (k + 1) ≡ 2 * 2 ^ k = (let e : k + 1 ≡ suc k = omega arith in rw e (pow-succ' 2 k)) in rw e (grind arith)
 
 pub code_parameter_is : (bits : ℕ) (s : Statistics) (k : ℕ) → 2 * s.counter ≤ level s → s.counter * 2 ^ k ≤ level s → level s < 2 * (s.counter * 2 ^ k)

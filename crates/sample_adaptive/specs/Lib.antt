@@ -7,5 +7,6 @@ pub mod Examples
 pub mod Settings
 pub mod Statistics
 pub mod Taken
+pub mod Thresholds
 pub mod BandStates
 pub mod Words

@@ -10,6 +10,7 @@ pub mod run_words;
 pub mod single_word;
 pub mod statistics;
 pub mod stats;
+mod thresholds;
 pub mod worked;
 pub mod worked_refusals;
 pub mod written_column;

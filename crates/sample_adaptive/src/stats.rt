@@ -8,12 +8,14 @@ ghost use Rattle.sample_adaptive.specs.Settings.{AreForSamples, HasEntries, sett
 ghost use Rattle.sample_adaptive.specs.Statistics.{constant_of, start_statistics};
 ghost use Rattle.sample_adaptive.specs.Taken.{CoderState, HasTaken, HasSettings, PutsResidual, PutsRun, GetsRun, Writes, WritesRun, code_by, counted, of_band};
 ghost use Rattle.sample_adaptive.specs.BandStates.{AreBandStates, statistics_of};
+ghost use Rattle.sample_adaptive.specs.Thresholds.{AreThresholds};
 ghost use Rattle.sample_adaptive.specs.Words.{code_word};
 
 use crate::band_state::BandState;
 use crate::code_settings::CodeSettings;
 use crate::run_words::take_words;
 use crate::statistics::{Rescaling, first};
+use crate::thresholds::thresholds;
 use crate::written_column::next_word;
 use crate::written_run::{LaterRun, make_room, put_words};
 use core::mem::replace_with;
@@ -29,8 +31,11 @@ use std::marker::Model;
 pub struct Stats {
     pub(crate) settings: CodeSettings,
     pub(crate) bands: Vec<BandState>,
+    /// By the counter, how large the accumulator has to be for each code parameter.
+    pub(crate) thresholds: Vec<u32>,
     /// The fault for which a read was refused, if one was: every later read is refused for the same.
     pub(crate) refused: Option<Fault>,
+    pub(crate) ghost thresholds_are: { AreThresholds settings.bits settings.rescaling.size thresholds.items },
 }
 
 impl Model for Stats {
@@ -53,8 +58,8 @@ impl Model for Stats {
 impl Stats {
     /// Returns the coder of an image, which has taken no residual.
     ///
-    /// The parameters are lawful, and name this coder. Returns `WantOfMemory` if the statistics of all bands can't be
-    /// allocated.
+    /// The parameters are lawful, and name this coder. Returns `WantOfMemory` if the statistics of all bands, or the table of
+    /// thresholds, can't be allocated.
     pub fn new(alloc: Global, params: &Params) -> Result<Stats, Fault>
         requires { AreForSamples params.now }
         ensures taken { IfOk result (λ s. HasTaken (settings params.now) s (λ z. [])) }
@@ -80,9 +85,11 @@ impl Stats {
                     start,
                     params.shape.bands(),
                 )?;
+                let thresholds = thresholds(alloc, settings.bits, settings.rescaling.size)?;
                 Ok(Stats {
                     settings,
                     bands,
+                    thresholds,
                     refused: None,
                 })
             }
