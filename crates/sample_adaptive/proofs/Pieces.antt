@@ -24,7 +24,7 @@ pub halves_at_one : (gamma_star : ℕ) (s : Statistics) (residual : ℕ) → s.c
 unfolding next_statistics
 halves_at_one gamma_star s residual full = rw (le-ltb s.counter (2 ^ gamma_star - 1) (omega (arith, full)), full) refl
 
-sum_first : (x : ℕ) (xs : List ℕ) → sum (x ∷ xs) ≡ x + sum xs
+pub sum_first : (x : ℕ) (xs : List ℕ) → sum (x ∷ xs) ≡ x + sum xs
 sum_first x xs = sum_by-cons (λ n. n) x xs
 
 -- residuals after which the counter is still below 2^γ*: they are counted and summed

@@ -4,6 +4,7 @@ pub mod Given
 pub mod Laws
 pub mod Reading
 pub mod Examples
+pub mod Runs
 pub mod Settings
 pub mod Statistics
 pub mod Taken

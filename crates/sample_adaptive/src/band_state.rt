@@ -1,8 +1,9 @@
 //! The state of each band: its statistics, and the code parameter k.
 
-ghost use Rattle.std.specs.Prelude.{◌≡◌};
+ghost use Rattle.std.specs.Prelude.{◌≡◌, ◌+◌, ◌^◌, ◌<◌, ◌≤◌};
 ghost use Rattle.sample_adaptive.specs.Statistics.{AreStatistics, next_statistics, code_parameter};
 ghost use Rattle.sample_adaptive.specs.BandStates.{IsBandState};
+ghost use Rattle.sample_adaptive.specs.declared.code_settings.CodeSettings.{CodeSettings};
 
 use crate::code_settings::CodeSettings;
 use crate::statistics::{Statistics, counted, halved, level, parameter};
@@ -31,6 +32,21 @@ impl BandState {
         ensures state { IsBandState settings result }
     {
         let k = parameter(settings.bits, statistics);
+        BandState {
+            statistics,
+            k,
+            power: 1 << k,
+            scaled_counter: statistics.counter << k,
+        }
+    }
+
+    /// Returns the state with these statistics, and a code parameter that need not be theirs.
+    #[inline(always)]
+    pub(crate) fn with_parameter(statistics: Statistics, k: u32) -> BandState
+        requires { (k ≤ 14) × (statistics.counter < 2 ^ 9) }
+        ensures statistics { result.statistics ≡ statistics }
+        ensures state { (settings : CodeSettings) → AreStatistics settings.rescaling.size statistics → k + 2 ≤ settings.bits → IsBandState settings result }
+    {
         BandState {
             statistics,
             k,

@@ -5,6 +5,7 @@ mod band_state;
 mod code_settings;
 pub mod code_word;
 pub mod column;
+mod kept_code;
 pub mod laws;
 pub mod run_words;
 pub mod single_word;

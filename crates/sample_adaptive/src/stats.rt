@@ -174,6 +174,7 @@ impl Stats {
     {
         let run = LaterRun {
             settings: self.settings,
+            thresholds: &self.thresholds,
             state: self.bands[z as usize],
             residuals,
         };

@@ -1,19 +1,23 @@
-use Rattle.std.proofs.Common.{◌≡◌, ◌<◌, ◌+◌, ◌-◌, ◌*◌, ◌≤◌, ℕ, length, take}
-use Rattle.sample_adaptive.specs.Taken.{CoderState, HasSettings, Writes, of_band, with_band}
+use Rattle.std.proofs.Common.{◌≡◌, ◌+◌, ◌-◌, ◌*◌, ◌≤◌, ◌++◌, ℕ, length, take}
+use Rattle.header_bits.specs.Bits.{Written}
+use Rattle.sample_adaptive.specs.declared.band_state.BandState.{BandState}
+use Rattle.sample_adaptive.specs.declared.written_run.LaterRun.{LaterRun}
 use Rattle.sample_adaptive.specs.BandStates.{IsBandState}
+use Rattle.sample_adaptive.specs.Runs.{words_from}
+use Rattle.sample_adaptive.specs.Statistics.{statistics_from}
 use Rattle.sample_adaptive.proofs.written_run.put_words.Given as goal
 
+-- the code words of the first i residuals are written
+pub record Reached (run : LaterRun) (before now : Written) (state : BandState) (i : ℕ) : Type 0 where
+  pub text : now.bits ≡ before.bits ++ words_from run.settings run.state.statistics (take i run.residuals.now)
+  pub statistics : state.statistics ≡ statistics_from run.settings.rescaling.size run.state.statistics (take i run.residuals.now)
+  pub kept : IsBandState run.settings state
+  pub within : i ≤ length run.residuals.now
+  pub room : before.room ≤ now.room + 48 * i
+  pub still : now.room ≤ before.room
+
 abbrev pub invariant-loop-i : goal.invariant-loop-i
-invariant-loop-i l =
-    record {
-      run : (v : CoderState) (z t k : ℕ) → z < length v.bands → HasSettings v l.fn.run.settings.bits l.fn.run.settings.limit l.fn.run.settings.rescaling.size
-          → of_band v.bands z ≡ l.fn.run.state.statistics → 0 < t + k
-          → Writes (λ j. z) (λ j. t + j) k (take l.i l.fn.run.residuals.now) v l.fn.writer.bits (with_band v z l.state.statistics) l.writer.bits;
-      state : IsBandState l.fn.run.settings l.state;
-      room : 48 * (length l.fn.run.residuals.now - l.i) ≤ l.writer.room;
-      within : l.i ≤ length l.fn.run.residuals.now;
-      still : l.writer.room ≤ l.fn.writer.room;
-    }
+invariant-loop-i l = Reached l.run l.fn.writer l.writer l.state l.i
 
 abbrev pub decreases-loop-i : goal.decreases-loop-i
 decreases-loop-i l = length l.residuals - l.i

@@ -6,7 +6,7 @@ use Rattle.sample_adaptive.proofs.stats.Stats.put_later.Goals as goal
 pub replace_with-requires : goal.replace_with-requires
 replace_with-requires c =
     let own = state_own c.args.self.now _ (bands_seen c.self.view_is) _ c.requires.band _ c.self.invariant _ c.index.ensures in
-    (own, (rw (← c.self.view_is) at c.requires.residuals, c.requires.room))
+    (own, (rw c.deref.ensures.value c.self.inside.thresholds_are, (rw (← c.self.view_is) at c.requires.residuals, c.requires.room)))
 
 pub invariant_of-self : goal.invariant_of-self
 invariant_of-self c =

@@ -1,0 +1,28 @@
+use Rattle.std.proofs.Common.{sym, append-nil, arith}
+use Rattle.sample_adaptive.specs.Runs.{words_from}
+use Rattle.sample_adaptive.proofs.Counting.{counter_range}
+use Rattle.sample_adaptive.proofs.WordsFrom.{sum_most}
+use Rattle.sample_adaptive.proofs.written_run.put_piece.Goals as goal
+
+pub loop-i-init : goal.loop-i-init
+unfolding words_from
+loop-i-init c =
+    record {
+      text = sym (append-nil c.args.writer.bits);
+      kept = c.of.ensures.kept;
+      sum = omega arith;
+      within = omega arith;
+      room = omega arith;
+      still = omega arith;
+    }
+
+pub after_piece-statistics-requires-clause-accumulator : goal.after_piece-statistics-requires-clause-accumulator
+after_piece-statistics-requires-clause-accumulator c =
+    let most = sum_most c.args.run.settings.bits c.args.run.residuals.now c.loop-i-2.i c.args.run.settings.bits_in.1 c.requires.piece.below in
+    omega (arith, most, c.loop-i-2.invariant.sum, c.loop-i-2.invariant.within, c.requires.piece.statistics.bound)
+
+pub with_parameter-requires : goal.with_parameter-requires
+with_parameter-requires c = (
+  omega (arith, c.loop-i-2.invariant.kept.k, c.args.run.settings.bits_in),
+  (counter_range _ _ c.args.run.settings.rescaling.size_in.1 c.after_piece-statistics.ensures.statistics).1,
+)
