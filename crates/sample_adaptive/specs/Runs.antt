@@ -22,6 +22,7 @@ words_from c s (residual ∷ residuals) = code_word (code_with c s) residual ++ 
 pub record IsKeptCode (c : CodeSettings) (kept : KeptCode) : Type 0 where
   pub k : kept.k + 2 ≤ c.bits
   pub one : kept.one ≡ 2 ^ kept.k
+  pub shortest : kept.shortest ≡ kept.k + 1
   pub row : kept.row ≡ 520 * kept.k
   pub fence : (kept.fence ≤ c.limit) × (kept.fence + kept.k ≤ 16)
 

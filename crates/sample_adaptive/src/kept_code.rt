@@ -1,12 +1,11 @@
 //! A code parameter that is kept as long as residuals have it.
 
-ghost use Rattle.std.specs.Prelude.{◌≡◌, ◌+◌, ◌*◌, ◌^◌, ◌<◌, ◌≤◌};
+ghost use Rattle.std.specs.Prelude.{◌≡◌, ◌+◌, ◌*◌, ◌^◌, ◌<◌, ◌≤◌, IsTrue};
 ghost use Rattle.sample_adaptive.specs.Runs.{IsKeptCode};
-ghost use Rattle.sample_adaptive.specs.Statistics.{AreStatistics, code_parameter};
+ghost use Rattle.sample_adaptive.specs.Statistics.{code_parameter};
 ghost use Rattle.sample_adaptive.specs.Thresholds.{AreThresholds};
 
 use crate::code_settings::CodeSettings;
-use crate::statistics::{Statistics, parameter};
 use crate::thresholds::ROW;
 
 /// The most bits of a code word that is joined with others.
@@ -19,6 +18,8 @@ pub(crate) struct KeptCode {
     pub k: u32,
     /// 2^k.
     pub one: u64,
+    /// k + 1, the length of a code word without zeros.
+    pub shortest: u32,
     /// Where the thresholds of k begin in their table.
     pub row: usize,
     /// A residual whose quotient is below it has a code word without an escape, of at most 16 bits.
@@ -36,29 +37,27 @@ impl KeptCode {
         KeptCode {
             k,
             one: 1 << k,
+            shortest: k + 1,
             row: ROW * k as usize,
             fence: settings.limit.min(MOST_BITS - k),
         }
     }
 
-    /// Returns the code parameter that the statistics give, which mostly is this one: two thresholds show that it is.
+    /// Returns whether the statistics give this code parameter, by two thresholds.
     #[inline(always)]
-    pub(crate) fn settled(
+    pub(crate) fn holds(
         self,
         settings: CodeSettings,
         thresholds: &[u32],
-        s: Statistics,
-    ) -> KeptCode
+        counter: usize,
+        accumulator: u32,
+    ) -> bool
         requires kept { IsKeptCode settings self }
         requires table { AreThresholds settings.bits settings.rescaling.size thresholds.now }
-        requires statistics { AreStatistics settings.rescaling.size s }
-        ensures k { result.k ≡ code_parameter settings.bits s }
-        ensures kept { IsKeptCode settings result }
+        requires counter { counter < 2 ^ settings.rescaling.size }
+        ensures { IsTrue result → self.k ≡ code_parameter settings.bits (record { counter = counter; accumulator = accumulator }) }
     {
-        let at = self.row + s.counter as usize;
-        if thresholds[at] <= s.accumulator && s.accumulator < thresholds[at + ROW] {
-            return self;
-        }
-        KeptCode::of(settings, parameter(settings.bits, s))
+        let at = self.row + counter;
+        thresholds[at] <= accumulator && accumulator < thresholds[at + ROW]
     }
 }

@@ -1,6 +1,6 @@
 //! Runs of one band's code words, written.
 
-ghost use Rattle.std.specs.Prelude.{◌≡◌, ◌+◌, ◌*◌, ◌^◌, ◌<◌, ◌≤◌, ◌++◌, List, Bool, length, take, max, IsOk, IfErr, OnOk, ℕ};
+ghost use Rattle.std.specs.Prelude.{◌≡◌, ◌+◌, ◌-◌, ◌*◌, ◌^◌, ◌<◌, ◌≤◌, ◌++◌, List, Bool, length, take, max, IfSome, IsOk, IfErr, OnOk, ℕ};
 ghost use Rattle.std.specs.List.{AllByRecursion, sum};
 ghost use Rattle.cube_core.specs.declared.fault.Fault.TheVariants.{WantOfMemory};
 ghost use Rattle.header_bits.specs.Bits.{bits_of};
@@ -9,13 +9,13 @@ ghost use Rattle.sample_adaptive.specs.Runs.{IsKeptCode, IsPiece, sum_after, wor
 ghost use Rattle.sample_adaptive.specs.Statistics.{AreStatistics, statistics_from};
 ghost use Rattle.sample_adaptive.specs.Taken.{CoderState, HasSettings, Writes, of_band, with_band};
 ghost use Rattle.sample_adaptive.specs.Thresholds.{AreThresholds};
-ghost use Rattle.sample_adaptive.specs.Words.{code_word};
+ghost use Rattle.sample_adaptive.specs.Words.{IsCode, code_word};
 
 use crate::band_state::BandState;
 use crate::code_settings::CodeSettings;
 use crate::code_word::{Code, Word, joined, word_of};
 use crate::kept_code::KeptCode;
-use crate::statistics::{Rescaling, Statistics};
+use crate::statistics::{Rescaling, Statistics, parameter};
 use cube_core::fault::Fault;
 use header_bits::bit_writer::BitWriter;
 
@@ -83,27 +83,30 @@ fn put_piece(writer: BitWriter, run: LaterRun) -> (BitWriter, BandState)
     ensures room { writer.room ≤ result.0.room + 48 * length run.entry.residuals.now }
 {
     let mut writer = writer;
-    let mut state = PieceState {
-        kept: KeptCode::of(run.settings, run.state.k),
-        accumulator: run.state.statistics.accumulator,
-    };
+    let mut kept = KeptCode::of(run.settings, run.state.k);
+    let mut accumulator = run.state.statistics.accumulator;
     let count = run.residuals.len();
     let mut i = 0;
-    while i + 4 <= count {
-        state = put_four(run, state, i, &mut writer);
-        i += 4;
-    }
     while i < count {
-        state = put_one(run, state, i, &mut writer);
-        i += 1;
+        let fours = put_fours(writer, run, kept, i, accumulator);
+        writer = fours.0;
+        i = fours.1;
+        accumulator = fours.2;
+        if i < count {
+            let one = put_one(writer, run, i, accumulator);
+            writer = one.0;
+            kept = one.1;
+            accumulator += u32::from(run.residuals[i]);
+            i += 1;
+        }
     }
     let statistics = after_piece(
         run.settings.rescaling,
         run.state.statistics,
         count as u32,
-        state.accumulator,
+        accumulator,
     );
-    (writer, BandState::with_parameter(statistics, state.kept.k))
+    (writer, BandState::with_parameter(statistics, kept.k))
 }
 
 /// Returns the statistics after residuals at whose end at most they are halved, by how many they are and by the accumulator after them.
@@ -128,139 +131,136 @@ fn after_piece(rescaling: Rescaling, s: Statistics, count: u32, accumulator: u32
     }
 }
 
-/// What changes from residual to residual of a piece: the code parameter, and the sum so far.
-#[derive(Clone, Copy)]
-struct PieceState {
+/// Appends the code words of a piece's residuals from `i` on, four at a time, as long as they have this code parameter and at most 16 bits.
+/// Returns the index of the residual after them, and the accumulator before it.
+///
+/// What is out of the ordinary ends the loop, so that nothing is in registers that the others don't need.
+#[inline(always)]
+fn put_fours(
+    writer: BitWriter,
+    run: LaterRun,
     kept: KeptCode,
+    i: usize,
     accumulator: u32,
+) -> (BitWriter, usize, u32)
+    requires piece { IsPiece run.settings run.state.statistics run.thresholds.now run.residuals.now }
+    requires within { i ≤ length run.residuals.now }
+    requires kept { IsKeptCode run.settings kept }
+    requires sum { accumulator ≡ sum_after run.state.statistics run.residuals.now i }
+    requires room { 48 * (length run.residuals.now - i) ≤ writer.room }
+    ensures text { (old : List Bool) → writer.bits ≡ old ++ words_from run.entry.settings run.entry.state.statistics (take i run.entry.residuals.now)
+        → result.0.bits ≡ old ++ words_from run.entry.settings run.entry.state.statistics (take result.1 run.entry.residuals.now) }
+    ensures sum { result.2 ≡ sum_after run.entry.state.statistics run.entry.residuals.now result.1 }
+    ensures within { (i ≤ result.1) × (result.1 ≤ length run.entry.residuals.now) }
+    ensures room { writer.room + 48 * i ≤ result.0.room + 48 * result.1 }
+    ensures still { result.0.room ≤ writer.room }
+{
+    let mut writer = writer;
+    let mut at = i;
+    let mut accumulator = accumulator;
+    while at + 4 <= run.residuals.len() {
+        let four = joined_four(run, kept, at, accumulator);
+        writer.push_reserved(four.0.bits, four.0.length);
+        at += four.1;
+        accumulator = four.2;
+        if four.1 < 4 {
+            break;
+        }
+    }
+    (writer, at, accumulator)
 }
 
-/// Appends the code words of residuals `i` to `i + 3` of a piece, and returns the state after them.
-///
-/// Words of at most 16 bits are joined, and pushed at once.
+/// Returns the code words of a piece's residuals from `i` on, joined: of four, or of fewer where the code parameter changes or a code word may have
+/// more than 16 bits. Returns how many they are, and the accumulator after them, too.
 #[inline(always)]
-fn put_four(run: LaterRun, state: PieceState, i: usize, writer: &mut BitWriter) -> PieceState
+fn joined_four(run: LaterRun, kept: KeptCode, i: usize, accumulator: u32) -> (Word, usize, u32)
     requires piece { IsPiece run.settings run.state.statistics run.thresholds.now run.residuals.now }
     requires within { i + 4 ≤ length run.residuals.now }
-    requires kept { IsKeptCode run.settings state.kept }
-    requires sum { state.accumulator ≡ sum_after run.state.statistics run.residuals.now i }
-    requires room { 192 ≤ writer.old.room }
-    ensures text { (old : List Bool) → writer.old.bits ≡ old ++ words_from run.entry.settings run.entry.state.statistics (take i run.entry.residuals.now)
-        → writer.new.bits ≡ old ++ words_from run.entry.settings run.entry.state.statistics (take (i + 4) run.entry.residuals.now) }
-    ensures kept { IsKeptCode run.entry.settings result.kept }
-    ensures sum { result.accumulator ≡ sum_after run.entry.state.statistics run.entry.residuals.now (i + 4) }
-    ensures room { writer.old.room ≤ writer.new.room + 192 }
-    ensures still { writer.new.room ≤ writer.old.room }
+    requires kept { IsKeptCode run.settings kept }
+    requires sum { accumulator ≡ sum_after run.state.statistics run.residuals.now i }
+    ensures text { (old now : List Bool) → now ≡ old ++ words_from run.entry.settings run.entry.state.statistics (take i run.entry.residuals.now)
+        → now ++ bits_of result.0.length result.0.bits ≡ old ++ words_from run.entry.settings run.entry.state.statistics (take (i + result.1) run.entry.residuals.now) }
+    ensures words { (result.0.bits < 2 ^ result.0.length) × (result.0.length ≤ 16 * result.1) }
+    ensures few { result.1 ≤ 4 }
+    ensures sum { result.2 ≡ sum_after run.entry.state.statistics run.entry.residuals.now (i + result.1) }
 {
     let none = Word { bits: 0, length: 0 };
-    let a = join_next(run, state, i, none, writer);
-    let b = join_next(run, a.0, i + 1, a.1, writer);
-    let c = join_next(run, b.0, i + 2, b.1, writer);
-    let d = join_next(run, c.0, i + 3, c.1, writer);
-    writer.push_reserved(d.1.bits, d.1.length);
-    d.0
+    let Some(a) = joined_next(run, kept, i, accumulator, none) else {
+        return (none, 0, accumulator);
+    };
+    let after_a = accumulator + u32::from(run.residuals[i]);
+    let Some(b) = joined_next(run, kept, i + 1, after_a, a) else {
+        return (a, 1, after_a);
+    };
+    let after_b = after_a + u32::from(run.residuals[i + 1]);
+    let Some(c) = joined_next(run, kept, i + 2, after_b, b) else {
+        return (b, 2, after_b);
+    };
+    let after_c = after_b + u32::from(run.residuals[i + 2]);
+    let Some(d) = joined_next(run, kept, i + 3, after_c, c) else {
+        return (c, 3, after_c);
+    };
+    (d, 4, after_c + u32::from(run.residuals[i + 3]))
 }
 
-/// Appends the code word of residual `i` of a piece, and returns the state after it.
+/// Returns words joined with the code word of residual `i` of a piece, or `None` where its code parameter is another or it may have more than 16 bits.
 #[inline(always)]
-fn put_one(run: LaterRun, state: PieceState, i: usize, writer: &mut BitWriter) -> PieceState
-    requires piece { IsPiece run.settings run.state.statistics run.thresholds.now run.residuals.now }
-    requires within { i < length run.residuals.now }
-    requires kept { IsKeptCode run.settings state.kept }
-    requires sum { state.accumulator ≡ sum_after run.state.statistics run.residuals.now i }
-    requires room { 48 ≤ writer.old.room }
-    ensures text { (old : List Bool) → writer.old.bits ≡ old ++ words_from run.entry.settings run.entry.state.statistics (take i run.entry.residuals.now)
-        → writer.new.bits ≡ old ++ words_from run.entry.settings run.entry.state.statistics (take (i + 1) run.entry.residuals.now) }
-    ensures kept { IsKeptCode run.entry.settings result.kept }
-    ensures sum { result.accumulator ≡ sum_after run.entry.state.statistics run.entry.residuals.now (i + 1) }
-    ensures room { writer.old.room ≤ writer.new.room + 48 }
-    ensures still { writer.new.room ≤ writer.old.room }
-{
-    let none = Word { bits: 0, length: 0 };
-    let next = join_next(run, state, i, none, writer);
-    writer.push_reserved(next.1.bits, next.1.length);
-    next.0
-}
-
-/// Joins words with the code word of residual `i` of a piece. Returns the state after it, and the words that aren't appended.
-#[inline(always)]
-fn join_next(
+fn joined_next(
     run: LaterRun,
-    state: PieceState,
+    kept: KeptCode,
     i: usize,
+    accumulator: u32,
     words: Word,
-    writer: &mut BitWriter,
-) -> (PieceState, Word)
+) -> Option<Word>
     requires piece { IsPiece run.settings run.state.statistics run.thresholds.now run.residuals.now }
     requires within { i < length run.residuals.now }
-    requires kept { IsKeptCode run.settings state.kept }
-    requires sum { state.accumulator ≡ sum_after run.state.statistics run.residuals.now i }
+    requires kept { IsKeptCode run.settings kept }
+    requires sum { accumulator ≡ sum_after run.state.statistics run.residuals.now i }
     requires words { (words.bits < 2 ^ words.length) × (words.length ≤ 48) }
-    requires room { words.length + 48 ≤ writer.old.room }
-    ensures text { (old : List Bool) → writer.old.bits ++ bits_of words.length words.bits ≡ old ++ words_from run.entry.settings run.entry.state.statistics (take i run.entry.residuals.now)
-        → writer.new.bits ++ bits_of result.1.length result.1.bits ≡ old ++ words_from run.entry.settings run.entry.state.statistics (take (i + 1) run.entry.residuals.now) }
-    ensures kept { IsKeptCode run.entry.settings result.0.kept }
-    ensures sum { result.0.accumulator ≡ sum_after run.entry.state.statistics run.entry.residuals.now (i + 1) }
-    ensures words { (result.1.bits < 2 ^ result.1.length) × (result.1.length ≤ words.length + 16) }
-    ensures room { writer.old.room + result.1.length ≤ writer.new.room + words.length + 48 }
-    ensures still { writer.new.room ≤ writer.old.room }
+    ensures text { IfSome result (λ next. (old now : List Bool) → now ++ bits_of words.length words.bits ≡ old ++ words_from run.entry.settings run.entry.state.statistics (take i run.entry.residuals.now)
+        → now ++ bits_of next.length next.bits ≡ old ++ words_from run.entry.settings run.entry.state.statistics (take (i + 1) run.entry.residuals.now)) }
+    ensures words { IfSome result (λ next. (next.bits < 2 ^ next.length) × (next.length ≤ words.length + 16)) }
 {
     let residual = run.residuals[i];
-    let s = Statistics {
-        counter: run.state.statistics.counter + i as u32,
-        accumulator: state.accumulator,
+    let counter = run.state.statistics.counter as usize + i;
+    let quotient = u32::from(residual) >> kept.k;
+    if quotient >= kept.fence || !kept.holds(run.settings, run.thresholds, counter, accumulator) {
+        return None;
+    }
+    let word = Word {
+        bits: kept.one + (u64::from(residual) & (kept.one - 1)),
+        length: quotient + kept.shortest,
     };
-    let kept = state.kept.settled(run.settings, run.thresholds, s);
-    let after = PieceState {
-        kept,
-        accumulator: state.accumulator + u32::from(residual),
-    };
-    (
-        after,
-        join_word(run.settings, kept, residual, words, writer),
-    )
+    Some(joined(words, word))
 }
 
-/// Joins words with the code word of a residual. Returns the words that aren't appended: none where the code word may be an escape, or
-/// have more than 16 bits.
+/// Appends the code word of residual `i` of a piece, which may be an escape. Returns its code parameter, too.
 #[inline(always)]
-fn join_word(
-    settings: CodeSettings,
-    kept: KeptCode,
-    residual: u16,
-    words: Word,
-    writer: &mut BitWriter,
-) -> Word
-    requires kept { IsKeptCode settings kept }
-    requires residual { residual < 2 ^ settings.bits }
-    requires words { (words.bits < 2 ^ words.length) × (words.length ≤ 48) }
-    requires room { words.length + 48 ≤ writer.old.room }
-    ensures text { writer.new.bits ++ bits_of result.length result.bits ≡ (writer.old.bits ++ bits_of words.length words.bits) ++ code_word (record {
-      limit = settings.limit;
-      k = kept.k;
-      bits = settings.bits;
-    }) residual }
-    ensures words { (result.bits < 2 ^ result.length) × (result.length ≤ words.length + 16) }
-    ensures room { writer.old.room + result.length ≤ writer.new.room + words.length + 48 }
-    ensures still { writer.new.room ≤ writer.old.room }
+fn put_one(writer: BitWriter, run: LaterRun, i: usize, accumulator: u32) -> (BitWriter, KeptCode)
+    requires piece { IsPiece run.settings run.state.statistics run.thresholds.now run.residuals.now }
+    requires within { i < length run.residuals.now }
+    requires sum { accumulator ≡ sum_after run.state.statistics run.residuals.now i }
+    requires room { 48 ≤ writer.room }
+    ensures text { (old : List Bool) → writer.bits ≡ old ++ words_from run.entry.settings run.entry.state.statistics (take i run.entry.residuals.now)
+        → result.0.bits ≡ old ++ words_from run.entry.settings run.entry.state.statistics (take (i + 1) run.entry.residuals.now) }
+    ensures kept { IsKeptCode run.entry.settings result.1 }
+    ensures room { writer.room ≤ result.0.room + 48 }
+    ensures still { result.0.room ≤ writer.room }
 {
-    let quotient = u32::from(residual) >> kept.k;
-    if quotient < kept.fence {
-        let word = Word {
-            bits: kept.one + (u64::from(residual) & (kept.one - 1)),
-            length: quotient + 1 + kept.k,
-        };
-        return joined(words, word);
-    }
-    let code = Code {
-        limit: settings.limit,
-        k: kept.k,
-        bits: settings.bits,
+    let s = Statistics {
+        counter: run.state.statistics.counter + i as u32,
+        accumulator,
     };
-    let word = word_of(code, residual);
-    writer.push_reserved(words.bits, words.length);
+    let k = parameter(run.settings.bits, s);
+    let code = Code {
+        limit: run.settings.limit,
+        k,
+        bits: run.settings.bits,
+    };
+    let word = word_of(code, run.residuals[i]);
+    let mut writer = writer;
     writer.push_reserved(word.bits, word.length);
-    Word { bits: 0, length: 0 }
+    (writer, KeptCode::of(run.settings, k))
 }
 
 /// Reserves room for `words` code words. The room grows to that, in whole bytes, or to as many bits as are written if these are more.
