@@ -19,12 +19,12 @@ words_from c s [] = []
 words_from c s (residual ∷ residuals) = code_word (code_with c s) residual ++ words_from c (next_statistics c.rescaling.size s residual) residuals
 
 -- k is at most D - 2; a word whose quotient is below the fence is no escape, and has at most 16 bits
-pub record IsKeptCode (c : CodeSettings) (kept : KeptCode) : Type 0 where
-  pub k : kept.k + 2 ≤ c.bits
+pub record IsKeptCode (bits limit counter : ℕ) (kept : KeptCode) : Type 0 where
+  pub k : kept.k + 2 ≤ bits
   pub one : kept.one ≡ 2 ^ kept.k
   pub shortest : kept.shortest ≡ kept.k + 1
-  pub row : kept.row ≡ 520 * kept.k
-  pub fence : (kept.fence ≤ c.limit) × (kept.fence + kept.k ≤ 16)
+  pub first : kept.first ≡ 520 * kept.k + counter
+  pub fence : (kept.fence ≤ limit) × (kept.fence + kept.k ≤ 16)
 
 -- residuals of a band, from these statistics on, within which the counter doesn't pass 2^γ*
 pub record IsPiece (c : CodeSettings) (s : Statistics) (table residuals : List ℕ) : Type 0 where

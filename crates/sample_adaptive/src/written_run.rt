@@ -1,6 +1,6 @@
 //! Runs of one band's code words, written.
 
-ghost use Rattle.std.specs.Prelude.{◌≡◌, ◌+◌, ◌-◌, ◌*◌, ◌^◌, ◌<◌, ◌≤◌, ◌++◌, List, Bool, length, take, max, IfSome, IsOk, IfErr, OnOk, ℕ};
+ghost use Rattle.std.specs.Prelude.{◌≡◌, ◌+◌, ◌*◌, ◌^◌, ◌<◌, ◌≤◌, ◌++◌, List, Bool, length, take, max, IsOk, IfErr, OnOk, ℕ};
 ghost use Rattle.std.specs.List.{AllByRecursion, sum};
 ghost use Rattle.cube_core.specs.declared.fault.Fault.TheVariants.{WantOfMemory};
 ghost use Rattle.header_bits.specs.Bits.{bits_of};
@@ -15,7 +15,7 @@ use crate::band_state::BandState;
 use crate::code_settings::CodeSettings;
 use crate::code_word::{Code, Word, joined, word_of};
 use crate::kept_code::KeptCode;
-use crate::statistics::{Rescaling, Statistics, parameter};
+use crate::statistics::{Rescaling, Statistics};
 use cube_core::fault::Fault;
 use header_bits::bit_writer::BitWriter;
 
@@ -83,30 +83,36 @@ fn put_piece(writer: BitWriter, run: LaterRun) -> (BitWriter, BandState)
     ensures room { writer.room ≤ result.0.room + 48 * length run.entry.residuals.now }
 {
     let mut writer = writer;
-    let mut kept = KeptCode::of(run.settings, run.state.k);
-    let mut accumulator = run.state.statistics.accumulator;
+    let mut state = PieceState {
+        kept: KeptCode::of(
+            run.settings.bits,
+            run.settings.limit,
+            run.state.statistics.counter,
+            run.state.k,
+        ),
+        accumulator: run.state.statistics.accumulator,
+    };
     let count = run.residuals.len();
     let mut i = 0;
+    while i + 4 <= count {
+        let after = put_four(writer, run, state, i);
+        writer = after.0;
+        state = after.1;
+        i += 4;
+    }
     while i < count {
-        let fours = put_fours(writer, run, kept, i, accumulator);
-        writer = fours.0;
-        i = fours.1;
-        accumulator = fours.2;
-        if i < count {
-            let one = put_one(writer, run, i, accumulator);
-            writer = one.0;
-            kept = one.1;
-            accumulator += u32::from(run.residuals[i]);
-            i += 1;
-        }
+        let after = put_one(writer, run, state, i);
+        writer = after.0;
+        state = after.1;
+        i += 1;
     }
     let statistics = after_piece(
         run.settings.rescaling,
         run.state.statistics,
         count as u32,
-        accumulator,
+        state.accumulator,
     );
-    (writer, BandState::with_parameter(statistics, kept.k))
+    (writer, BandState::with_parameter(statistics, state.kept.k))
 }
 
 /// Returns the statistics after residuals at whose end at most they are halved, by how many they are and by the accumulator after them.
@@ -131,136 +137,131 @@ fn after_piece(rescaling: Rescaling, s: Statistics, count: u32, accumulator: u32
     }
 }
 
-/// Appends the code words of a piece's residuals from `i` on, four at a time, as long as they have this code parameter and at most 16 bits.
-/// Returns the index of the residual after them, and the accumulator before it.
+/// What changes from residual to residual of a piece: the code parameter, and the sum so far.
+#[derive(Clone, Copy)]
+struct PieceState {
+    kept: KeptCode,
+    accumulator: u32,
+}
+
+/// Appends the code words of residuals `i` to `i + 3` of a piece, and returns the state after them.
 ///
-/// What is out of the ordinary ends the loop, so that nothing is in registers that the others don't need.
+/// Words of at most 16 bits are joined, and pushed at once.
 #[inline(always)]
-fn put_fours(
+fn put_four(
     writer: BitWriter,
     run: LaterRun,
-    kept: KeptCode,
+    state: PieceState,
     i: usize,
-    accumulator: u32,
-) -> (BitWriter, usize, u32)
-    requires piece { IsPiece run.settings run.state.statistics run.thresholds.now run.residuals.now }
-    requires within { i ≤ length run.residuals.now }
-    requires kept { IsKeptCode run.settings kept }
-    requires sum { accumulator ≡ sum_after run.state.statistics run.residuals.now i }
-    requires room { 48 * (length run.residuals.now - i) ≤ writer.room }
-    ensures text { (old : List Bool) → writer.bits ≡ old ++ words_from run.entry.settings run.entry.state.statistics (take i run.entry.residuals.now)
-        → result.0.bits ≡ old ++ words_from run.entry.settings run.entry.state.statistics (take result.1 run.entry.residuals.now) }
-    ensures sum { result.2 ≡ sum_after run.entry.state.statistics run.entry.residuals.now result.1 }
-    ensures within { (i ≤ result.1) × (result.1 ≤ length run.entry.residuals.now) }
-    ensures room { writer.room + 48 * i ≤ result.0.room + 48 * result.1 }
-    ensures still { result.0.room ≤ writer.room }
-{
-    let mut writer = writer;
-    let mut at = i;
-    let mut accumulator = accumulator;
-    while at + 4 <= run.residuals.len() {
-        let four = joined_four(run, kept, at, accumulator);
-        writer.push_reserved(four.0.bits, four.0.length);
-        at += four.1;
-        accumulator = four.2;
-        if four.1 < 4 {
-            break;
-        }
-    }
-    (writer, at, accumulator)
-}
-
-/// Returns the code words of a piece's residuals from `i` on, joined: of four, or of fewer where the code parameter changes or a code word may have
-/// more than 16 bits. Returns how many they are, and the accumulator after them, too.
-#[inline(always)]
-fn joined_four(run: LaterRun, kept: KeptCode, i: usize, accumulator: u32) -> (Word, usize, u32)
+) -> (BitWriter, PieceState)
     requires piece { IsPiece run.settings run.state.statistics run.thresholds.now run.residuals.now }
     requires within { i + 4 ≤ length run.residuals.now }
-    requires kept { IsKeptCode run.settings kept }
-    requires sum { accumulator ≡ sum_after run.state.statistics run.residuals.now i }
-    ensures text { (old now : List Bool) → now ≡ old ++ words_from run.entry.settings run.entry.state.statistics (take i run.entry.residuals.now)
-        → now ++ bits_of result.0.length result.0.bits ≡ old ++ words_from run.entry.settings run.entry.state.statistics (take (i + result.1) run.entry.residuals.now) }
-    ensures words { (result.0.bits < 2 ^ result.0.length) × (result.0.length ≤ 16 * result.1) }
-    ensures few { result.1 ≤ 4 }
-    ensures sum { result.2 ≡ sum_after run.entry.state.statistics run.entry.residuals.now (i + result.1) }
+    requires kept { IsKeptCode run.settings.bits run.settings.limit run.state.statistics.counter state.kept }
+    requires sum { state.accumulator ≡ sum_after run.state.statistics run.residuals.now i }
+    requires room { 192 ≤ writer.room }
+    ensures text { (old : List Bool) → writer.bits ≡ old ++ words_from run.entry.settings run.entry.state.statistics (take i run.entry.residuals.now)
+        → result.0.bits ≡ old ++ words_from run.entry.settings run.entry.state.statistics (take (i + 4) run.entry.residuals.now) }
+    ensures kept { IsKeptCode run.entry.settings.bits run.entry.settings.limit run.entry.state.statistics.counter result.1.kept }
+    ensures sum { result.1.accumulator ≡ sum_after run.entry.state.statistics run.entry.residuals.now (i + 4) }
+    ensures room { writer.room ≤ result.0.room + 192 }
+    ensures still { result.0.room ≤ writer.room }
 {
     let none = Word { bits: 0, length: 0 };
-    let Some(a) = joined_next(run, kept, i, accumulator, none) else {
-        return (none, 0, accumulator);
-    };
-    let after_a = accumulator + u32::from(run.residuals[i]);
-    let Some(b) = joined_next(run, kept, i + 1, after_a, a) else {
-        return (a, 1, after_a);
-    };
-    let after_b = after_a + u32::from(run.residuals[i + 1]);
-    let Some(c) = joined_next(run, kept, i + 2, after_b, b) else {
-        return (b, 2, after_b);
-    };
-    let after_c = after_b + u32::from(run.residuals[i + 2]);
-    let Some(d) = joined_next(run, kept, i + 3, after_c, c) else {
-        return (c, 3, after_c);
-    };
-    (d, 4, after_c + u32::from(run.residuals[i + 3]))
+    let a = join_next(writer, run, state, i, none);
+    let b = join_next(a.0, run, a.1, i + 1, a.2);
+    let c = join_next(b.0, run, b.1, i + 2, b.2);
+    let d = join_next(c.0, run, c.1, i + 3, c.2);
+    let mut writer = d.0;
+    writer.push_reserved(d.2.bits, d.2.length);
+    (writer, d.1)
 }
 
-/// Returns words joined with the code word of residual `i` of a piece, or `None` where its code parameter is another or it may have more than 16 bits.
+/// Appends the code word of residual `i` of a piece, and returns the state after it.
 #[inline(always)]
-fn joined_next(
-    run: LaterRun,
-    kept: KeptCode,
-    i: usize,
-    accumulator: u32,
-    words: Word,
-) -> Option<Word>
+fn put_one(writer: BitWriter, run: LaterRun, state: PieceState, i: usize) -> (BitWriter, PieceState)
     requires piece { IsPiece run.settings run.state.statistics run.thresholds.now run.residuals.now }
     requires within { i < length run.residuals.now }
-    requires kept { IsKeptCode run.settings kept }
-    requires sum { accumulator ≡ sum_after run.state.statistics run.residuals.now i }
-    requires words { (words.bits < 2 ^ words.length) × (words.length ≤ 48) }
-    ensures text { IfSome result (λ next. (old now : List Bool) → now ++ bits_of words.length words.bits ≡ old ++ words_from run.entry.settings run.entry.state.statistics (take i run.entry.residuals.now)
-        → now ++ bits_of next.length next.bits ≡ old ++ words_from run.entry.settings run.entry.state.statistics (take (i + 1) run.entry.residuals.now)) }
-    ensures words { IfSome result (λ next. (next.bits < 2 ^ next.length) × (next.length ≤ words.length + 16)) }
-{
-    let residual = run.residuals[i];
-    let counter = run.state.statistics.counter as usize + i;
-    let quotient = u32::from(residual) >> kept.k;
-    if quotient >= kept.fence || !kept.holds(run.settings, run.thresholds, counter, accumulator) {
-        return None;
-    }
-    let word = Word {
-        bits: kept.one + (u64::from(residual) & (kept.one - 1)),
-        length: quotient + kept.shortest,
-    };
-    Some(joined(words, word))
-}
-
-/// Appends the code word of residual `i` of a piece, which may be an escape. Returns its code parameter, too.
-#[inline(always)]
-fn put_one(writer: BitWriter, run: LaterRun, i: usize, accumulator: u32) -> (BitWriter, KeptCode)
-    requires piece { IsPiece run.settings run.state.statistics run.thresholds.now run.residuals.now }
-    requires within { i < length run.residuals.now }
-    requires sum { accumulator ≡ sum_after run.state.statistics run.residuals.now i }
+    requires kept { IsKeptCode run.settings.bits run.settings.limit run.state.statistics.counter state.kept }
+    requires sum { state.accumulator ≡ sum_after run.state.statistics run.residuals.now i }
     requires room { 48 ≤ writer.room }
     ensures text { (old : List Bool) → writer.bits ≡ old ++ words_from run.entry.settings run.entry.state.statistics (take i run.entry.residuals.now)
         → result.0.bits ≡ old ++ words_from run.entry.settings run.entry.state.statistics (take (i + 1) run.entry.residuals.now) }
-    ensures kept { IsKeptCode run.entry.settings result.1 }
+    ensures kept { IsKeptCode run.entry.settings.bits run.entry.settings.limit run.entry.state.statistics.counter result.1.kept }
+    ensures sum { result.1.accumulator ≡ sum_after run.entry.state.statistics run.entry.residuals.now (i + 1) }
     ensures room { writer.room ≤ result.0.room + 48 }
     ensures still { result.0.room ≤ writer.room }
 {
-    let s = Statistics {
-        counter: run.state.statistics.counter + i as u32,
-        accumulator,
+    let none = Word { bits: 0, length: 0 };
+    let next = join_next(writer, run, state, i, none);
+    let mut writer = next.0;
+    writer.push_reserved(next.2.bits, next.2.length);
+    (writer, next.1)
+}
+
+/// Joins words with the code word of residual `i` of a piece. Returns the state after it, and the words that aren't appended.
+#[inline(always)]
+fn join_next(
+    writer: BitWriter,
+    run: LaterRun,
+    state: PieceState,
+    i: usize,
+    words: Word,
+) -> (BitWriter, PieceState, Word)
+    requires piece { IsPiece run.settings run.state.statistics run.thresholds.now run.residuals.now }
+    requires within { i < length run.residuals.now }
+    requires kept { IsKeptCode run.settings.bits run.settings.limit run.state.statistics.counter state.kept }
+    requires sum { state.accumulator ≡ sum_after run.state.statistics run.residuals.now i }
+    requires words { (words.bits < 2 ^ words.length) × (words.length ≤ 48) }
+    requires room { words.length + 48 ≤ writer.room }
+    ensures text { (old : List Bool) → writer.bits ++ bits_of words.length words.bits ≡ old ++ words_from run.entry.settings run.entry.state.statistics (take i run.entry.residuals.now)
+        → result.0.bits ++ bits_of result.2.length result.2.bits ≡ old ++ words_from run.entry.settings run.entry.state.statistics (take (i + 1) run.entry.residuals.now) }
+    ensures kept { IsKeptCode run.entry.settings.bits run.entry.settings.limit run.entry.state.statistics.counter result.1.kept }
+    ensures sum { result.1.accumulator ≡ sum_after run.entry.state.statistics run.entry.residuals.now (i + 1) }
+    ensures words { (result.2.bits < 2 ^ result.2.length) × (result.2.length ≤ words.length + 16) }
+    ensures room { writer.room + result.2.length ≤ result.0.room + words.length + 48 }
+    ensures still { result.0.room ≤ writer.room }
+{
+    let residual = run.residuals[i];
+    let counter = run.state.statistics.counter;
+    let kept = state.kept.settled(run.settings, run.thresholds, counter, i, state.accumulator);
+    let after = PieceState {
+        kept,
+        accumulator: state.accumulator + u32::from(residual),
     };
-    let k = parameter(run.settings.bits, s);
+    let quotient = u32::from(residual) >> kept.k;
+    if quotient < kept.fence {
+        let word = Word {
+            bits: kept.one + (u64::from(residual) & (kept.one - 1)),
+            length: quotient + kept.shortest,
+        };
+        return (writer, after, joined(words, word));
+    }
     let code = Code {
         limit: run.settings.limit,
-        k,
+        k: kept.k,
         bits: run.settings.bits,
     };
-    let word = word_of(code, run.residuals[i]);
+    let none = Word { bits: 0, length: 0 };
+    (put_long(writer, words, code, residual), after, none)
+}
+
+/// Appends words, and then the code word of a residual, which may be an escape. Apart from the loop that joins words, which is shorter so.
+#[cold]
+#[inline(never)]
+fn put_long(writer: BitWriter, words: Word, code: Code, residual: u16) -> BitWriter
+    requires code { IsCode code }
+    requires residual { residual < 2 ^ code.bits }
+    requires words { (words.bits < 2 ^ words.length) × (words.length ≤ 48) }
+    requires room { words.length + 48 ≤ writer.room }
+    ensures text { result.bits ≡ (writer.bits ++ bits_of words.length words.bits) ++ code_word code residual }
+    ensures room { writer.room ≤ result.room + words.length + 48 }
+    ensures still { result.room ≤ writer.room }
+{
+    let word = word_of(code, residual);
     let mut writer = writer;
+    writer.push_reserved(words.bits, words.length);
     writer.push_reserved(word.bits, word.length);
-    (writer, KeptCode::of(run.settings, k))
+    writer
 }
 
 /// Reserves room for `words` code words. The room grows to that, in whole bytes, or to as many bits as are written if these are more.
