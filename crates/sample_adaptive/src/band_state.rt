@@ -3,10 +3,12 @@
 ghost use Rattle.std.specs.Prelude.{◌≡◌, ◌+◌, ◌^◌, ◌<◌, ◌≤◌};
 ghost use Rattle.sample_adaptive.specs.Statistics.{AreStatistics, next_statistics, code_parameter};
 ghost use Rattle.sample_adaptive.specs.BandStates.{IsBandState};
+ghost use Rattle.sample_adaptive.specs.Thresholds.{AreThresholds};
 ghost use Rattle.sample_adaptive.specs.declared.code_settings.CodeSettings.{CodeSettings};
 
 use crate::code_settings::CodeSettings;
-use crate::statistics::{Statistics, counted, halved, level, parameter};
+use crate::statistics::{Statistics, counted, halved, level, parameter, rare_parameter};
+use crate::thresholds::ROW;
 
 /// The statistics of a band, and the code parameter of its last residual, which most residuals leave as it was.
 ///
@@ -45,6 +47,7 @@ impl BandState {
     pub(crate) fn with_parameter(statistics: Statistics, k: u32) -> BandState
         requires { (k ≤ 14) × (statistics.counter < 2 ^ 9) }
         ensures statistics { result.statistics ≡ statistics }
+        ensures k { result.k ≡ k }
         ensures state { (settings : CodeSettings) → AreStatistics settings.rescaling.size statistics → k + 2 ≤ settings.bits → IsBandState settings result }
     {
         BandState {
@@ -70,6 +73,26 @@ impl BandState {
             return;
         }
         *self = BandState::of(settings, self.statistics);
+    }
+
+    /// Updates the code parameter to that of the statistics, by a table of thresholds.
+    ///
+    /// Two of them mostly show that it is unchanged, and then nothing is written.
+    #[inline(always)]
+    pub(crate) fn settle(&mut self, settings: CodeSettings, thresholds: &[u32])
+        requires state { IsBandState settings self.old }
+        requires table { AreThresholds settings.bits settings.rescaling.size thresholds.now }
+        ensures statistics { self.new.statistics ≡ self.old.statistics }
+        ensures value { self.new.k ≡ code_parameter settings.bits self.old.statistics }
+        ensures state { IsBandState settings self.new }
+    {
+        let s = self.statistics;
+        let at = ROW * self.k as usize + s.counter as usize;
+        if thresholds[at] <= s.accumulator && s.accumulator < thresholds[at + ROW] {
+            return;
+        }
+        let k = rare_parameter(settings.bits, s.counter, s.accumulator);
+        *self = BandState::with_parameter(s, k);
     }
 
     /// Counts one more residual, and leaves the code parameter as it was.

@@ -100,3 +100,22 @@ pub(crate) fn parameter(bits: u32, s: Statistics) -> u32
     let less = u32::from(s.counter << shift > level);
     (shift - less).min(bits - 2)
 }
+
+/// `parameter`, apart from the loops that mostly keep one. What it takes is passed in registers.
+#[cold]
+#[inline(never)]
+pub(crate) fn rare_parameter(bits: u32, counter: u32, accumulator: u32) -> u32
+    requires bits { (2 ≤ bits) × (bits ≤ 16) }
+    requires counter { (1 ≤ counter) × (counter < 2 ^ 9) }
+    requires accumulator { accumulator < 2 ^ 25 }
+    ensures value { result ≡ code_parameter bits (record { counter = counter; accumulator = accumulator }) }
+    ensures most { result + 2 ≤ bits }
+{
+    parameter(
+        bits,
+        Statistics {
+            counter,
+            accumulator,
+        },
+    )
+}

@@ -1,18 +1,19 @@
 //! Columns of code words, written: one residual of each of several bands.
 
-ghost use Rattle.std.specs.Prelude.{◌≡◌, ◌+◌, ◌*◌, ◌^◌, ◌<◌, ◌≤◌, ◌==◌, length, max, IsOk, IfErr, OnOk, OnErr, ℕ};
+ghost use Rattle.std.specs.Prelude.{◌≡◌, ◌+◌, ◌*◌, ◌^◌, ◌<◌, ◌≤◌, ◌==◌, ◌++◌, length, max, IsOk, IfErr, OnOk, OnErr, ℕ};
 ghost use Rattle.std.specs.List.{AllByRecursion};
 ghost use Rattle.cube_core.specs.declared.fault.Fault.TheVariants.{WantOfMemory};
 ghost use Rattle.header_bits.specs.Bits.{bits_of};
 ghost use Rattle.sample_adaptive.specs.Words.{code_word};
 ghost use Rattle.sample_adaptive.specs.Taken.{CoderState, HasSettings, PutsColumn, WritesColumn, code_by, counted, of_band, with_band};
 ghost use Rattle.sample_adaptive.specs.BandStates.{IsBandState, AreBandStates, statistics_of};
+ghost use Rattle.sample_adaptive.specs.Thresholds.{AreThresholds};
 
 use crate::band_state::BandState;
 use crate::code_settings::CodeSettings;
-use crate::code_word::{Code, Word, push_both, word_of};
+use crate::code_word::{Code, Word, joined, push_both, word_of};
 use crate::stats::Stats;
-use crate::written_run::make_room;
+use crate::written_run::{make_room, put_long};
 use core::mem::replace;
 use cube_core::fault::Fault;
 use header_bits::bit_writer::BitWriter;
@@ -47,9 +48,17 @@ impl Stats {
         make_room(residuals.len(), writer)?;
         // The writer is taken out for as long, so that it stays in registers.
         let nothing = BitWriter::new(*self.bands.allocator());
-        let mut ahead = replace(writer, nothing);
-        put_words_of(self.settings, z, t, &mut self.bands, residuals, &mut ahead);
-        *writer = ahead;
+        let ahead = replace(writer, nothing);
+        let settings = self.settings;
+        *writer = put_words_of(
+            ahead,
+            settings,
+            &self.thresholds,
+            z,
+            t,
+            &mut self.bands,
+            residuals,
+        );
         Ok(())
     }
 }
@@ -57,30 +66,159 @@ impl Stats {
 /// Appends the code word of one residual of each band from band `z` on, for which the writer has room, and updates the bands' states.
 #[inline(always)]
 fn put_words_of(
+    writer: BitWriter,
     settings: CodeSettings,
+    thresholds: &[u32],
     z: u32,
     t: u64,
     bands: &mut [BandState],
     residuals: &[u16],
-    writer: &mut BitWriter,
-)
+) -> BitWriter
+    requires table { AreThresholds settings.bits settings.rescaling.size thresholds.now }
     requires state { AreBandStates settings bands.old }
     requires inside { z + length residuals.now ≤ length bands.old }
     requires few { length residuals.now ≤ 2 ^ 16 }
     requires residuals { AllByRecursion (λ n. n < 2 ^ settings.bits) residuals.now }
-    requires room { 48 * length residuals.now ≤ writer.old.room }
+    requires room { 48 * length residuals.now ≤ writer.room }
     ensures written { (v : CoderState) → v.bands ≡ statistics_of bands.old → HasSettings v settings.bits settings.limit settings.rescaling.size
-        → WritesColumn z t residuals.now v writer.old.bits (record v { bands = statistics_of bands.new }) writer.new.bits }
+        → WritesColumn z t residuals.now v writer.bits (record v { bands = statistics_of bands.new }) result.bits }
     ensures state { AreBandStates settings bands.new }
     ensures bands { length bands.new ≡ length bands.old }
-    ensures still { writer.new.room ≤ writer.old.room }
+    ensures still { result.room ≤ writer.room }
 {
-    // Two loops, in each of which the compiler knows whether the residuals are the first.
     if t == 0 {
-        put_each(settings, z, true, bands, residuals, writer);
-    } else {
-        put_each(settings, z, false, bands, residuals, writer);
+        let mut writer = writer;
+        put_each(settings, z, true, bands, residuals, &mut writer);
+        return writer;
     }
+    put_joined(writer, settings, thresholds, z, bands, residuals)
+}
+
+/// `put_words_of` for residuals none of which is the first of its band. Code words of at most 16 bits are joined, four to a push.
+#[inline(always)]
+fn put_joined(
+    writer: BitWriter,
+    settings: CodeSettings,
+    thresholds: &[u32],
+    z: u32,
+    bands: &mut [BandState],
+    residuals: &[u16],
+) -> BitWriter
+    requires table { AreThresholds settings.bits settings.rescaling.size thresholds.now }
+    requires state { AreBandStates settings bands.old }
+    requires inside { z + length residuals.now ≤ length bands.old }
+    requires few { length residuals.now ≤ 2 ^ 16 }
+    requires residuals { AllByRecursion (λ n. n < 2 ^ settings.bits) residuals.now }
+    requires room { 48 * length residuals.now ≤ writer.room }
+    ensures written { (v : CoderState) (t : ℕ) → 0 < t → v.bands ≡ statistics_of bands.old → HasSettings v settings.bits settings.limit settings.rescaling.size
+        → WritesColumn z t residuals.now v writer.bits (record v { bands = statistics_of bands.new }) result.bits }
+    ensures state { AreBandStates settings bands.new }
+    ensures bands { length bands.new ≡ length bands.old }
+    ensures still { result.room ≤ writer.room }
+{
+    let mut writer = writer;
+    let mut i = 0;
+    let none = Word { bits: 0, length: 0 };
+    while i + 4 <= residuals.len() {
+        let at = z as usize + i;
+        let a = join_band(
+            writer,
+            settings,
+            thresholds,
+            &mut bands[at],
+            residuals[i],
+            none,
+        );
+        let b = join_band(
+            a.0,
+            settings,
+            thresholds,
+            &mut bands[at + 1],
+            residuals[i + 1],
+            a.1,
+        );
+        let c = join_band(
+            b.0,
+            settings,
+            thresholds,
+            &mut bands[at + 2],
+            residuals[i + 2],
+            b.1,
+        );
+        let d = join_band(
+            c.0,
+            settings,
+            thresholds,
+            &mut bands[at + 3],
+            residuals[i + 3],
+            c.1,
+        );
+        writer = d.0;
+        writer.push_reserved(d.1.bits, d.1.length);
+        i += 4;
+    }
+    while i < residuals.len() {
+        let at = z as usize + i;
+        let one = join_band(
+            writer,
+            settings,
+            thresholds,
+            &mut bands[at],
+            residuals[i],
+            none,
+        );
+        writer = one.0;
+        writer.push_reserved(one.1.bits, one.1.length);
+        i += 1;
+    }
+    writer
+}
+
+/// Joins words with the code word of a band's next residual, which isn't its first, and updates the band's state. Returns the words
+/// that aren't appended.
+#[inline(always)]
+fn join_band(
+    writer: BitWriter,
+    settings: CodeSettings,
+    thresholds: &[u32],
+    state: &mut BandState,
+    residual: u16,
+    words: Word,
+) -> (BitWriter, Word)
+    requires table { AreThresholds settings.bits settings.rescaling.size thresholds.now }
+    requires state { IsBandState settings state.old }
+    requires residual { residual < 2 ^ settings.bits }
+    requires words { (words.bits < 2 ^ words.length) × (words.length ≤ 48) }
+    requires room { words.length + 48 ≤ writer.room }
+    ensures text { (v : CoderState) (z t : ℕ) → 0 < t → HasSettings v settings.bits settings.limit settings.rescaling.size → of_band v.bands z ≡ state.old.statistics
+        → result.0.bits ++ bits_of result.1.length result.1.bits ≡ (writer.bits ++ bits_of words.length words.bits) ++ code_word (code_by v z t) residual }
+    ensures counts { (v : CoderState) (z t : ℕ) → 0 < t → HasSettings v settings.bits settings.limit settings.rescaling.size
+        → of_band v.bands z ≡ state.old.statistics → counted v z t residual ≡ with_band v z state.new.statistics }
+    ensures state { IsBandState settings state.new }
+    ensures words { (result.1.bits < 2 ^ result.1.length) × (result.1.length ≤ words.length + 16) }
+    ensures room { writer.room + result.1.length ≤ result.0.room + words.length + 48 }
+    ensures still { result.0.room ≤ writer.room }
+{
+    state.settle(settings, thresholds);
+    let k = state.k;
+    let one = u64::from(state.power);
+    state.count(settings, residual);
+    let quotient = u32::from(residual) >> k;
+    let length = quotient + 1 + k;
+    if quotient < settings.limit && length <= 16 {
+        let word = Word {
+            bits: one + (u64::from(residual) & (one - 1)),
+            length,
+        };
+        return (writer, joined(words, word));
+    }
+    let code = Code {
+        limit: settings.limit,
+        k,
+        bits: settings.bits,
+    };
+    let none = Word { bits: 0, length: 0 };
+    (put_long(writer, words, code, residual), none)
 }
 
 /// `put_words_of` for residuals that are either all the first of their bands or none of them.

@@ -248,7 +248,7 @@ fn join_next(
 /// Appends words, and then the code word of a residual, which may be an escape. Apart from the loop that joins words, which is shorter so.
 #[cold]
 #[inline(never)]
-fn put_long(writer: BitWriter, words: Word, code: Code, residual: u16) -> BitWriter
+pub(crate) fn put_long(writer: BitWriter, words: Word, code: Code, residual: u16) -> BitWriter
     requires code { IsCode code }
     requires residual { residual < 2 ^ code.bits }
     requires words { (words.bits < 2 ^ words.length) × (words.length ≤ 48) }
