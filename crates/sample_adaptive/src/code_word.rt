@@ -73,28 +73,6 @@ pub(crate) fn joined(first: Word, second: Word) -> Word
     }
 }
 
-/// Appends two code words, for which there is room.
-///
-/// Together they mostly fit in 64 bits, and then they are pushed at once.
-#[inline(always)]
-pub(crate) fn push_both(first: Word, second: Word, writer: &mut BitWriter)
-    requires first { (first.bits < 2 ^ first.length) × (first.length ≤ 48) }
-    requires second { (second.bits < 2 ^ second.length) × (second.length ≤ 48) }
-    requires room { first.length + second.length ≤ writer.old.room }
-    ensures appended { writer.new.bits ≡ writer.old.bits ++ bits_of first.length first.bits ++ bits_of second.length second.bits }
-    ensures room { writer.old.room ≤ writer.new.room + first.length + second.length }
-    ensures still { writer.new.room ≤ writer.old.room }
-{
-    let length = first.length + second.length;
-    if length <= 64 {
-        let both = (first.bits << second.length) + second.bits;
-        writer.push_reserved(both, length);
-    } else {
-        writer.push_reserved(first.bits, first.length);
-        writer.push_reserved(second.bits, second.length);
-    }
-}
-
 /// Reads the residual whose code word comes next, and returns it.
 ///
 /// Returns `BadCode` with the index if the bits are of a code word's form but no residual's, and `Truncated` if they end

@@ -11,7 +11,7 @@ ghost use Rattle.sample_adaptive.specs.Thresholds.{AreThresholds};
 
 use crate::band_state::BandState;
 use crate::code_settings::CodeSettings;
-use crate::code_word::{Code, Word, joined, push_both, word_of};
+use crate::code_word::{Code, Word, joined, word_of};
 use crate::stats::Stats;
 use crate::written_run::{make_room, put_long};
 use core::mem::replace;
@@ -87,9 +87,7 @@ fn put_words_of(
     ensures still { result.room ≤ writer.room }
 {
     if t == 0 {
-        let mut writer = writer;
-        put_each(settings, z, true, bands, residuals, &mut writer);
-        return writer;
+        return put_firsts(writer, settings, residuals);
     }
     put_joined(writer, settings, thresholds, z, bands, residuals)
 }
@@ -221,41 +219,25 @@ fn join_band(
     (put_long(writer, words, code, residual), none)
 }
 
-/// `put_words_of` for residuals that are either all the first of their bands or none of them.
-#[inline(always)]
-fn put_each(
-    settings: CodeSettings,
-    z: u32,
-    first: bool,
-    bands: &mut [BandState],
-    residuals: &[u16],
-    writer: &mut BitWriter,
-)
-    requires state { AreBandStates settings bands.old }
-    requires inside { z + length residuals.now ≤ length bands.old }
+/// Appends the code words of residuals each of which is the first of its band, for which the writer has room. They don't count.
+fn put_firsts(writer: BitWriter, settings: CodeSettings, residuals: &[u16]) -> BitWriter
     requires few { length residuals.now ≤ 2 ^ 16 }
     requires residuals { AllByRecursion (λ n. n < 2 ^ settings.bits) residuals.now }
-    requires room { 48 * length residuals.now ≤ writer.old.room }
-    ensures written { (v : CoderState) (t : ℕ) → first ≡ (t == 0) → v.bands ≡ statistics_of bands.old → HasSettings v settings.bits settings.limit settings.rescaling.size
-        → WritesColumn z t residuals.now v writer.old.bits (record v { bands = statistics_of bands.new }) writer.new.bits }
-    ensures state { AreBandStates settings bands.new }
-    ensures bands { length bands.new ≡ length bands.old }
-    ensures still { writer.new.room ≤ writer.old.room }
+    requires room { 48 * length residuals.now ≤ writer.room }
+    ensures written { (v : CoderState) (z : ℕ) → v.bits ≡ settings.bits → WritesColumn z 0 residuals.now v writer.bits v result.bits }
+    ensures still { result.room ≤ writer.room }
 {
-    let mut i = 0;
-    while i + 1 < residuals.len() {
-        let at = z as usize + i;
-        let one = next_word(settings, first, &mut bands[at], residuals[i]);
-        let two = next_word(settings, first, &mut bands[at + 1], residuals[i + 1]);
-        push_both(one, two, writer);
-        i += 2;
+    let mut writer = writer;
+    let code = Code {
+        limit: 0,
+        k: 0,
+        bits: settings.bits,
+    };
+    for i in 0..residuals.len() {
+        let word = word_of(code, residuals[i]);
+        writer.push_reserved(word.bits, word.length);
     }
-    if i == residuals.len() {
-        return;
-    }
-    let at = z as usize + i;
-    let last = next_word(settings, first, &mut bands[at], residuals[i]);
-    writer.push_reserved(last.bits, last.length);
+    writer
 }
 
 /// Returns the code word of a band's next residual, and updates the band's state unless the residual is its first.

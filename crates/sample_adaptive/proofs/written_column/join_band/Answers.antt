@@ -1,4 +1,4 @@
-use Rattle.std.proofs.Common.{◌≡◌, ℕ, ◌+◌, ◌-◌, ◌*◌, ◌/◌, ◌%◌, ◌^◌, ◌<◌, ◌≤◌, ◌++◌, List, Bool, refl, ap, sym, ◌∙◌, append_assoc, append-nil, arith}
+use Rattle.std.proofs.Common.{◌≡◌, ℕ, ◌+◌, ◌/◌, ◌^◌, ◌<◌, ◌≤◌, ◌++◌, List, Bool, refl, ap, sym, ◌∙◌, append_assoc, append-nil, arith}
 use Rattle.std.proofs.lemmas.Bool.{ne_eqb}
 use Rattle.std.proofs.lemmas.Nat.{and_mask}
 use Rattle.header_bits.specs.Bits.{bits_of}
@@ -40,5 +40,8 @@ returns-then-length-le16-clause-text c = λ v z t some has own.
 pub returns-clause-text : goal.returns-clause-text
 returns-clause-text c = λ v z t some has own.
     let settings = c.args.settings in
-    rw (← code_seen v z t settings.bits settings.limit settings.rescaling.size c.settle.new.self.k c.args.state.now.statistics some has own c.settle.ensures.value,
-    no_bits, append-nil) c.put_long.ensures.text
+    rw (
+      ← code_seen v z t settings.bits settings.limit settings.rescaling.size c.settle.new.self.k c.args.state.now.statistics some has own c.settle.ensures.value,
+      no_bits,
+      append-nil,
+    ) c.put_long.ensures.text

@@ -1,4 +1,4 @@
-use Rattle.std.proofs.Common.{◌≡◌, ◌+◌, ◌*◌, ◌<◌, ◌≤◌, ◌++◌, List, Bool, ℕ, length, take, get_or, set, refl, sym, ap, ◌∙◌, append-nil, arith}
+use Rattle.std.proofs.Common.{◌≡◌, ◌+◌, ◌<◌, ◌≤◌, ◌++◌, List, Bool, ℕ, length, take, get_or, set, refl, ◌∙◌, append-nil, arith}
 use Rattle.std.proofs.lemmas.List.{length-set, take_all}
 use Rattle.header_bits.proofs.Numbers.{no_bits}
 use Rattle.sample_adaptive.specs.declared.band_state.BandState.{BandState}
@@ -88,10 +88,24 @@ loop-i-preserved c =
       puts = rw c.push_reserved.ensures.appended (rw four at word-d);
       state = states-d;
       within = omega (arith, c.loop-i-test.true);
-      room = omega (arith, was.room, c.join_band-a.ensures.room, c.join_band-b.ensures.room, c.join_band-c.ensures.room, c.join_band-d.ensures.room,
-      c.push_reserved.ensures.room);
-      still = omega (arith, was.still, c.join_band-a.ensures.still, c.join_band-b.ensures.still, c.join_band-c.ensures.still, c.join_band-d.ensures.still,
-      c.push_reserved.ensures.room);
+      room = omega (
+        arith,
+        was.room,
+        c.join_band-a.ensures.room,
+        c.join_band-b.ensures.room,
+        c.join_band-c.ensures.room,
+        c.join_band-d.ensures.room,
+        c.push_reserved.ensures.room,
+      );
+      still = omega (
+        arith,
+        was.still,
+        c.join_band-a.ensures.still,
+        c.join_band-b.ensures.still,
+        c.join_band-c.ensures.still,
+        c.join_band-d.ensures.still,
+        c.push_reserved.ensures.room,
+      );
       count = long-d ∙ was.count;
     }
 

@@ -1,4 +1,4 @@
-use Rattle.std.proofs.Common.{ℕ, ◌≡◌, ◌+◌, ◌*◌, ◌^◌, ◌<◌, sym, ◌∙◌, arith}
+use Rattle.std.proofs.Common.{◌≡◌, ◌+◌, ◌*◌, ◌^◌, ◌<◌, sym, ◌∙◌, arith}
 use Rattle.sample_adaptive.proofs.Counting.{counter_range, accumulator_range}
 use Rattle.sample_adaptive.proofs.Table.{parameter_between}
 use Rattle.sample_adaptive.proofs.band_state.BandState.settle.Goals as goal
@@ -31,11 +31,10 @@ pub rare_parameter-k-requires-clause-accumulator : goal.rare_parameter-k-require
 rare_parameter-k-requires-clause-accumulator c = accumulator_range _ _ c.args.settings.rescaling.size_in.1 c.requires.state.statistics
 
 pub with_parameter-requires : goal.with_parameter-requires
-with_parameter-requires c =
-    (
-      omega (arith, c.rare_parameter-k.ensures.most, c.args.settings.bits_in),
-      (counter_range _ _ c.args.settings.rescaling.size_in.1 c.requires.state.statistics).1,
-    )
+with_parameter-requires c = (
+  omega (arith, c.rare_parameter-k.ensures.most, c.args.settings.bits_in),
+  (counter_range _ _ c.args.settings.rescaling.size_in.1 c.requires.state.statistics).1,
+)
 
 pub returns-clause-value : goal.returns-clause-value
 returns-clause-value c = c.with_parameter.ensures.k ∙ c.rare_parameter-k.ensures.value
