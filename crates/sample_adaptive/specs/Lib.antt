@@ -2,6 +2,7 @@ pub mod Body
 pub mod Unfold
 pub mod Given
 pub mod Laws
+pub mod Pieces
 pub mod Reading
 pub mod Examples
 pub mod Runs

@@ -7,11 +7,13 @@ ghost use Rattle.header_bits.specs.Reading.{Reads};
 ghost use Rattle.header_bits.specs.Windows.{IsAhead};
 ghost use Rattle.sample_adaptive.specs.Statistics.{code_parameter};
 ghost use Rattle.sample_adaptive.specs.Taken.{CoderState, HasSettings, GetsEach, GetsColumn, Reaches, code_by, counted, of_band, with_band};
+ghost use Rattle.sample_adaptive.specs.Thresholds.{AreThresholds};
 ghost use Rattle.sample_adaptive.specs.BandStates.{IsBandState, AreBandStates, statistics_of};
 
 use crate::band_state::BandState;
 use crate::code_settings::CodeSettings;
 use crate::code_word::{Code, take_from, take_word};
+use crate::short_column::{take_four, take_some};
 use crate::stats::Stats;
 use cube_core::fault::Fault;
 use header_bits::bit_reader::BitReader;
@@ -51,6 +53,7 @@ impl Stats {
         let mut ahead = reader.fork();
         match take_column(
             self.settings,
+            &self.thresholds,
             z as usize,
             t,
             index,
@@ -76,6 +79,7 @@ impl Stats {
 #[inline(always)]
 fn take_column(
     settings: CodeSettings,
+    thresholds: &[u32],
     z: usize,
     t: u64,
     index: u64,
@@ -83,6 +87,7 @@ fn take_column(
     reader: &mut BitReader,
     residuals: &mut [u16],
 ) -> Result<(), Fault>
+    requires thresholds { AreThresholds settings.bits settings.rescaling.size thresholds.now }
     requires state { AreBandStates settings bands.old }
     requires inside { z + length residuals.old ≤ length bands.old }
     requires long { (length residuals.old ≤ 2 ^ 16) × (index < 2 ^ 48) }
@@ -96,7 +101,7 @@ fn take_column(
     if t == 0 {
         return take_each(settings, z, true, index, bands, reader, residuals);
     }
-    let done = take_ready(settings, z, index, bands, reader, residuals);
+    let done = take_ready(settings, thresholds, z, index, bands, reader, residuals);
     if done == residuals.len() {
         return Ok(());
     }
@@ -114,16 +119,18 @@ fn take_column(
 /// Reads one residual of each band, none of which is its first, as long as 57 bits are left and begin with a code word. Returns
 /// how many, and updates the bands' states.
 ///
-/// A loop that refuses nothing keeps all that it changes in registers.
+/// A loop that refuses nothing keeps all that it changes in registers. Short words are read four at a time.
 #[inline(always)]
 fn take_ready(
     settings: CodeSettings,
+    thresholds: &[u32],
     z: usize,
     index: u64,
     bands: &mut [BandState],
     reader: &mut BitReader,
     residuals: &mut [u16],
 ) -> usize
+    requires thresholds { AreThresholds settings.bits settings.rescaling.size thresholds.now }
     requires state { AreBandStates settings bands.old }
     requires inside { z + length residuals.old ≤ length bands.old }
     requires long { (length residuals.old ≤ 2 ^ 16) × (index < 2 ^ 48) }
@@ -138,13 +145,30 @@ fn take_ready(
     let mut ahead = reader.fork();
     let mut i = 0;
     while i < residuals.len() {
-        let Some(word) = ahead.peek() else { break };
-        let band = &mut bands[z + i];
-        let Ok(residual) = take_known(settings, index + i as u64, word, band, &mut ahead) else {
+        if residuals.len() - i >= 4 {
+            let taken = take_four(settings, thresholds, z, bands, &mut ahead, i, residuals);
+            i += taken;
+            if taken >= 3 {
+                continue;
+            }
+        }
+        // A copy is passed on, so that the reader stays in registers.
+        let mut rest = ahead.fork();
+        let taken = take_some(
+            settings,
+            thresholds,
+            index + i as u64,
+            z,
+            bands,
+            &mut rest,
+            i,
+            residuals,
+        );
+        ahead = rest;
+        i += taken;
+        if taken == 0 {
             break;
-        };
-        residuals[i] = residual;
-        i += 1;
+        }
     }
     *reader = ahead;
     i
@@ -153,7 +177,7 @@ fn take_ready(
 /// Decodes one residual, not the band's first, from `word`, which begins with the next 57 bits, and updates the band's state.
 /// If the residual is refused, the reader and the band's statistics are as before.
 #[inline(always)]
-fn take_known(
+pub(crate) fn take_known(
     settings: CodeSettings,
     index: u64,
     word: u64,

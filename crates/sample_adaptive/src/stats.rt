@@ -13,7 +13,7 @@ ghost use Rattle.sample_adaptive.specs.Words.{code_word};
 
 use crate::band_state::BandState;
 use crate::code_settings::CodeSettings;
-use crate::run_words::take_words;
+use crate::read_run::take_words;
 use crate::statistics::{Rescaling, first};
 use crate::thresholds::thresholds;
 use crate::written_column::next_word;
@@ -213,7 +213,15 @@ impl Stats {
         // Copies go ahead: they stay in registers, and a refusal leaves what they were made of.
         let mut band = self.bands[z as usize];
         let mut ahead = reader.fork();
-        match take_words(self.settings, t, index, &mut band, &mut ahead, residuals) {
+        match take_words(
+            self.settings,
+            &self.thresholds,
+            t,
+            index,
+            &mut band,
+            &mut ahead,
+            residuals,
+        ) {
             Ok(()) => {
                 self.bands[z as usize] = band;
                 *reader = ahead;

@@ -1,0 +1,45 @@
+use Rattle.std.proofs.Common.{◌≡◌, ◌+◌, ◌<◌, ◌^◌, refl, arith}
+use Rattle.sample_adaptive.proofs.PieceEnds.{within_piece, statistics_counted}
+use Rattle.sample_adaptive.proofs.piece.take_piece.Goals as goal
+
+pub loop-taken-init : goal.loop-taken-init
+loop-taken-init c =
+    let none : c.args.i + 0 ≡ c.args.i = omega arith in
+    record {
+      taken = λ v z t k index first within settings some was.
+          rw (none, within_piece c.args.settings.rescaling.size c.args.statistics.now c.requires.statistics.most) was;
+      few = omega arith;
+      counter = omega arith;
+      statistics = statistics_counted _ _ c.requires.statistics;
+      words = c.requires.words;
+      most = refl;
+      count = refl;
+      long = refl;
+    }
+
+-- where a word isn't short
+pub returns-then-some-together-clause-taken : goal.returns-then-some-together-clause-taken
+returns-then-some-together-clause-taken c = λ v z t k index first within settings some was.
+    let inv = c.loop-taken.invariant in
+    let size = c.args.settings.rescaling.size in
+    let before = inv.taken v z t k index first within settings some was in
+    let inside : c.loop-taken.statistics.counter < 2 ^ size =
+    omega (arith, c.loop-taken-test.true, inv.counter, c.words_left-whole.ensures.before, c.args.words.now.together_in) in
+    let next : c.args.i + (c.loop-taken.taken + c.take_together-some.result) ≡ c.args.i + c.loop-taken.taken + c.take_together-some.result = omega arith in
+    rw (c.piece_ended.ensures.value, next)
+    (c.take_together-some.ensures.taken v z t k index first within settings some (rw (within_piece size c.loop-taken.statistics inside) at before))
+
+pub returns-then-taken-whole-clause-taken : goal.returns-then-taken-whole-clause-taken
+returns-then-taken-whole-clause-taken c = λ v z t k index first within settings some was.
+    rw c.piece_ended-then-taken-whole.ensures.value (c.loop-taken.invariant.taken v z t k index first within settings some was)
+
+-- fewer words, at the end of the piece or of the residuals
+pub returns-clause-taken : goal.returns-clause-taken
+returns-clause-taken c = λ v z t k index first within settings some was.
+    let inv = c.loop-taken.invariant in
+    let size = c.args.settings.rescaling.size in
+    let before = inv.taken v z t k index first within settings some was in
+    let inside : c.loop-taken.statistics.counter < 2 ^ size = omega (arith, inv.counter, inv.few, c.if-taken-whole.false, c.words_left-whole.ensures.before) in
+    let next : c.args.i + (c.loop-taken.taken + c.take_few-rest.result) ≡ c.args.i + c.loop-taken.taken + c.take_few-rest.result = omega arith in
+    rw (c.piece_ended-2.ensures.value, next)
+    (c.take_few-rest.ensures.taken v z t k index first within settings some (rw (within_piece size c.loop-taken.statistics inside) at before))
