@@ -7,8 +7,8 @@ ghost use Rattle.predict_core.specs.Wave.{AreOffsetRows, AreRowsBelow, sum_at};
 use crate::wave::form::Form;
 use crate::wave::place::{around_at, differences, local_sums};
 
-/// Writes the central differences of rows 1 to `last - 1`, whose offsets are `numbers`; those of the row above at the same columns are
-/// `above`. The other rows are zeros (CCSDS 123.0-B-1, "Local Differences").
+/// Writes the central differences of the rows from the second to number `last - 1`. Their offsets are `numbers`, and those of the row above at
+/// the same columns `above`. The other rows are zeros (CCSDS 123.0-B-1, "Local Differences").
 pub(crate) fn fill_centrals(
     form: Form,
     last: usize,
