@@ -72,7 +72,7 @@ pub coded_residuals : (p : Params) (c d : Image) → IsLawful p → c.shape ≡ 
 unfolding residuals
 coded_residuals p c d lawful shape coded =
     let same : (i : ℕ) (q : Place) → i < length (places p.shape p.order) → slice_get (places p.shape p.order) i ≡ Some q
-        → mapped_residual p d q.z (q.y * d.shape.columns + q.x) ≡ number_at c q.z q.y q.x =
+    → mapped_residual p d q.z (q.y * d.shape.columns + q.x) ≡ number_at c q.z q.y q.x =
     (λ i q lt item.
     let place : IsPlaceOf c.shape q = rw shape ((order_is_by_key p.shape p.order lawful.order).only i q item) in
     let time = ap (λ (s : Sizes). mapped_residual p d q.z (q.y * s.columns + q.x)) coded.alike.shape in

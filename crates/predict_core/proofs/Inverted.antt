@@ -260,13 +260,13 @@ module _ {p : Params} {c d e : Image} {bands : List PredictorState} {z y x n : �
     many = length-set bands z new ∙ inv.many;
     each = λ z' lt. elim (cases_eq z' z) [
       | inl here ↦ rw (here, get_or-set_same bands z new no_band (rw inv.many (rw shape at place.band))) (record {
-          band = moved.band ∙ was.band;
-          follows = follows;
-          done = λ y' x' q l. now_done y' x' (rw set-run.shape at q) (let m = rw (← same_columns) at l in omega (arith, m, moved.t, at));
-          coded = λ y' x' q l. (let there = rw set-run.shape at q in let m = rw (← same_columns) at l in
-              still_coded z y' x' (set-run.others z y' x' there (λ f g h. let row = ap (λ (k : ℕ). k * c.shape.columns) g in
-              omega (arith, row, m, moved.t, at, long))) (was.coded y' x' there (omega (arith, m, moved.t))));
-        })
+        band = moved.band ∙ was.band;
+        follows = follows;
+        done = λ y' x' q l. now_done y' x' (rw set-run.shape at q) (let m = rw (← same_columns) at l in omega (arith, m, moved.t, at));
+        coded = λ y' x' q l. (let there = rw set-run.shape at q in let m = rw (← same_columns) at l in
+            still_coded z y' x' (set-run.others z y' x' there (λ f g h. let row = ap (λ (k : ℕ). k * c.shape.columns) g in
+            omega (arith, row, m, moved.t, at, long))) (was.coded y' x' there (omega (arith, m, moved.t))));
+      })
       | inr apart ↦ rw (get_or-set_other bands z z' new no_band apart) (other z' apart (inv.each z' lt))
     ];
   }

@@ -179,8 +179,13 @@ module _ {q : ℕ} {f : Form} {c : Image} {bands : List PredictorState} {first y
     lower_none out =
         let zero = λ (j : ℕ) (h : j < 64). k.lower_numbers_is.none j b h fits out in let zero_above = λ (j : ℕ) (h : j < 64). k.lower_above_is.none j b h fits out in
         k.lower_is i b low high fits
-        ∙ rw (zero i (omega (arith, high)), zero (i - 1) (omega (arith, high)), zero_above (i - 1) (omega (arith, high)), zero_above i (omega (arith, high)),
-        zero_above (i + 1) (omega (arith, high))) (nothing f.column)
+        ∙ rw (
+          zero i (omega (arith, high)),
+          zero (i - 1) (omega (arith, high)),
+          zero_above (i - 1) (omega (arith, high)),
+          zero_above i (omega (arith, high)),
+          zero_above (i + 1) (omega (arith, high)),
+        ) (nothing f.column)
       where
         nothing : (r : Bool) → pos 4 *ℤ pos 0 -ℤ sum_by r (pos 0) (pos 0) (pos 0) (pos 0) ≡ pos 0
         nothing true = refl

@@ -42,13 +42,7 @@ pub fn invert(bands: &mut [Band], cube: &mut Cube)
 }
 
 /// Inverts the bands `first..last`, row after row. Those below them are inverted.
-fn invert_group(
-    bands: &mut [Band],
-    first: usize,
-    last: usize,
-    cube: &mut Cube,
-    room: &mut WaveRoom,
-)
+fn invert_group(bands: &mut [Band], first: usize, last: usize, cube: &mut Cube, room: &mut WaveRoom)
     requires inverting { (p : Parameters) × (d : Image) × IsInverting p cube.old d bands.old }
     requires order { (first ≤ last) × (last ≤ length bands.old) }
     requires start { StandAt bands.old first last 0 }

@@ -32,12 +32,7 @@ pub(crate) fn fill_centrals(
 
 /// Returns the central differences of row `i`.
 #[inline(always)]
-fn central_at(
-    form: Form,
-    i: usize,
-    numbers: &[[i16; 8]; 64],
-    above: &[[i16; 8]; 64],
-) -> [i16; 8]
+fn central_at(form: Form, i: usize, numbers: &[[i16; 8]; 64], above: &[[i16; 8]; 64]) -> [i16; 8]
     requires row { (1 ≤ i) × (i < 63) }
     requires numbers_in { AreOffsetRows form.greatest numbers.now }
     requires above_in { AreOffsetRows form.greatest above.now }

@@ -70,12 +70,7 @@ fn copy_run(line: &[i16; 64], count: usize, run: &mut [u16; 64])
 }
 
 /// Advances a band by `count` places, after which its weights are those of lane `b`.
-fn advance<const Q: usize>(
-    band: &mut Band,
-    rows: &[[i16; 16]; MOST_PAIRS],
-    b: usize,
-    count: usize,
-)
+fn advance<const Q: usize>(band: &mut Band, rows: &[[i16; 16]; MOST_PAIRS], b: usize, count: usize)
     requires pairs { Q ≤ 9 }
     requires lane { b < 8 }
     requires count { (count ≤ 56) × (band.old.t ≤ 2 ^ 33) }

@@ -48,7 +48,15 @@ pub(crate) fn invert_place<const Q: usize, const RAISED: bool, const LIMITED: bo
         differences(&around.west, &sums),
         differences(&around.north_west, &sums),
     ];
-    put_components::<Q>(form.reduced, form.previous, &directions, lower, own, k, pairs);
+    put_components::<Q>(
+        form.reduced,
+        form.previous,
+        &directions,
+        lower,
+        own,
+        k,
+        pairs,
+    );
     let parts = predict_place::<Q>(weights, pairs, 0, form.step);
     let offsets = unmapped(form.greatest, &parts, &sums, &numbers[k]);
     let central = differences(&offsets, &sums);

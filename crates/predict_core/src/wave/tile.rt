@@ -91,11 +91,49 @@ fn invert_lanes<const Q: usize>(
     if !fill_weights::<Q>(&bands[first..first + 8], &mut room.weights) {
         return false;
     }
-    fill_rows(cube, first, 0, y, origin, &mut room.lines, &mut room.numbers);
-    fill_rows(cube, first, 0, y - 1, origin, &mut room.lines, &mut room.above);
-    fill_rows(cube, first, 8, y, origin, &mut room.lines, &mut room.lower_numbers);
-    fill_rows(cube, first, 8, y - 1, origin, &mut room.lines, &mut room.lower_above);
-    fill_centrals(form, 63, &room.lower_numbers, &room.lower_above, &mut room.lower);
+    fill_rows(
+        cube,
+        first,
+        0,
+        y,
+        origin,
+        &mut room.lines,
+        &mut room.numbers,
+    );
+    fill_rows(
+        cube,
+        first,
+        0,
+        y - 1,
+        origin,
+        &mut room.lines,
+        &mut room.above,
+    );
+    fill_rows(
+        cube,
+        first,
+        8,
+        y,
+        origin,
+        &mut room.lines,
+        &mut room.lower_numbers,
+    );
+    fill_rows(
+        cube,
+        first,
+        8,
+        y - 1,
+        origin,
+        &mut room.lines,
+        &mut room.lower_above,
+    );
+    fill_centrals(
+        form,
+        63,
+        &room.lower_numbers,
+        &room.lower_above,
+        &mut room.lower,
+    );
     fill_centrals(form, 8, &room.numbers, &room.above, &mut room.own);
     invert_by::<Q>(
         form,

@@ -13,7 +13,12 @@ use crate::group::mapping::{half_of, nearer, scaled_offset};
 /// Returns the offsets of eight samples, from the predicted central differences, the local sums of offsets, and the mapped residuals
 /// (CCSDS 123.0-B-1, "Mapped Prediction Residual").
 #[inline(always)]
-pub(crate) fn unmapped(greatest: i16, parts: &[i16; 8], sums: &[i16; 8], residuals: &[i16; 8]) -> [i16; 8]
+pub(crate) fn unmapped(
+    greatest: i16,
+    parts: &[i16; 8],
+    sums: &[i16; 8],
+    residuals: &[i16; 8],
+) -> [i16; 8]
     requires greatest_in { (pos 1 ≤ℤ greatest) × (greatest ≤ℤ pos 4095) }
     requires residuals_in { AreOffsets greatest residuals.now }
     ensures value { (b : ℕ) → b < 8 → lane result b ≡ unmapped_between (pos 0) greatest
@@ -22,7 +27,11 @@ pub(crate) fn unmapped(greatest: i16, parts: &[i16; 8], sums: &[i16; 8], residua
 {
     let mut offsets = [0i16; 8];
     for b in 0..8usize {
-        offsets[b] = offset_at(greatest, scaled_offset(greatest, parts[b], sums[b]), residuals[b]);
+        offsets[b] = offset_at(
+            greatest,
+            scaled_offset(greatest, parts[b], sums[b]),
+            residuals[b],
+        );
     }
     offsets
 }

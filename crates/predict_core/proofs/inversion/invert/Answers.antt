@@ -11,10 +11,12 @@ invert_group-requires-clause-inverting c =
     (p, d.0, c.loop-first.invariant.inverted p d.0 (inverting_first start d.1))
 
 pub returns : goal.returns
-returns c = record { inverted = λ p start.
-    let d = coded_cube p c.args.cube.now start.lawful start.shape start.kind c.prove_is_cube.ensures in
-    let known = c.loop-first.invariant in
-    let same = inverted_last c.prove_is_cube-2.ensures (known.inverted p d.0 (inverting_first start d.1))
-    (λ lower lt. let size = ap (λ (s : Sizes). s.rows * s.columns) known.alike.shape in
-    let done = known.done lower (omega (arith, lt, start.many, c.loop-first-test.false)) in omega (arith, size, done)) in
-    rw same d.1 }
+returns c = record {
+  inverted = λ p start.
+      let d = coded_cube p c.args.cube.now start.lawful start.shape start.kind c.prove_is_cube.ensures in
+      let known = c.loop-first.invariant in
+      let same = inverted_last c.prove_is_cube-2.ensures (known.inverted p d.0 (inverting_first start d.1))
+      (λ lower lt. let size = ap (λ (s : Sizes). s.rows * s.columns) known.alike.shape in
+      let done = known.done lower (omega (arith, lt, start.many, c.loop-first-test.false)) in omega (arith, size, done)) in
+      rw same d.1;
+}

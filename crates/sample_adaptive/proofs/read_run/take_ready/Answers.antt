@@ -37,7 +37,7 @@ module _ (c : Left-loop-i) where
 
 pub with_parameter-requires : goal.with_parameter-requires
 with_parameter-requires c = elim c.loop-i-test.branch [
-      | else-loop-i-test w ↦ within c (rw w.statistics-is c.loop-i.invariant.statistics) (rw w.words-is c.loop-i.invariant.words)
-      | then-loop-i-test+else-taken-gt0+then-taken-eq0 w ↦
-          within c (rw w.statistics-is w.take_some-taken.ensures.statistics) (rw w.words-is w.take_some-taken.ensures.words)
-    ]
+  | else-loop-i-test w ↦ within c (rw w.statistics-is c.loop-i.invariant.statistics) (rw w.words-is c.loop-i.invariant.words)
+  | then-loop-i-test+else-taken-gt0+then-taken-eq0 w ↦
+      within c (rw w.statistics-is w.take_some-taken.ensures.statistics) (rw w.words-is w.take_some-taken.ensures.words)
+]

@@ -106,10 +106,10 @@ pub returns-clause-numbers_in : goal.returns-clause-numbers_in
 returns-clause-numbers_in g c i b h l =
     let gf : SFits w16 c.args.form.greatest = search rules in let found = simp (to_z-of_z gf) at c.unmapped-offsets.ensures in
     elim (cases_eq i c.args.k) [
-  | inl here ↦ rw (here, get_or-set_same c.args.numbers.now c.args.k c.unmapped-offsets.result [] (omega (arith, c.requires.step.1, c.told-numbers)))
-      (found.range b l)
-  | inr apart ↦ rw (get_or-set_other c.args.numbers.now c.args.k i c.unmapped-offsets.result [] apart) (c.requires.numbers_in i b h l)
-]
+      | inl here ↦ rw (here, get_or-set_same c.args.numbers.now c.args.k c.unmapped-offsets.result [] (omega (arith, c.requires.step.1, c.told-numbers)))
+          (found.range b l)
+      | inr apart ↦ rw (get_or-set_other c.args.numbers.now c.args.k i c.unmapped-offsets.result [] apart) (c.requires.numbers_in i b h l)
+    ]
 
 pub returns-clause-own_in : goal.returns-clause-own_in
 returns-clause-own_in g c i b h l =
