@@ -4,7 +4,7 @@ use Rattle.sample_adaptive.proofs.ForSamples.{settings_bits}
 use Rattle.speed.specs.Bodies.{AreOfBits, one_band_body}
 use Rattle.speed.proofs.Coded.{coded_none, coded_more, whole_text, none_greater}
 use Rattle.speed.proofs.sample_coder.encoded.Goals as goal
-use Rattle.speed.proofs.sample_coder.encoded.Goals.{After-drop-stats-inside-2, else-loop-t-test, then-loop-t-test+then-number-gt-MOST}
+use Rattle.speed.proofs.sample_coder.encoded.Goals.{After-drop-stats-inside-3, else-loop-t-test, then-loop-t-test+then-number-gt-MOST}
 
 pub loop-t-init : goal.loop-t-init
 loop-t-init c = record {
@@ -26,7 +26,7 @@ loop-t-preserved c =
     }
 
 -- where no number is greater all were taken
-all_taken : (c : After-drop-stats-inside-2) → AreOfBits 12 c.args.numbers.now → take c.loop-t.t c.args.numbers.now ≡ c.args.numbers.now
+all_taken : (c : After-drop-stats-inside-3) → AreOfBits 12 c.args.numbers.now → take c.loop-t.t c.args.numbers.now ≡ c.args.numbers.now
 all_taken c small = elim c.loop-t-test.branch [
   | else-loop-t-test w ↦ take_all c.loop-t.t c.args.numbers.now w.loop-t-test.false
   | then-loop-t-test+then-number-gt-MOST w ↦
