@@ -6,6 +6,10 @@ use Rattle.std.specs.Int.{int_min, int_max, int_div_euclid}
 abbrev pub lane : List ℤ → ℕ → ℤ
 lane v k = slice_index_or v k (pos 0)
 
+-- lane k of a vector of numbers without a sign
+abbrev pub number : List ℕ → ℕ → ℕ
+number v k = slice_index_or v k 0
+
 -- what 16 bits hold of a number: the nearest that they have
 abbrev pub held : ℤ → ℤ
 held a = int_max (negsuc 32767) (int_min a (pos 32767))

@@ -9,5 +9,6 @@ pub mod four;
 pub mod narrow;
 pub mod turn;
 pub mod turn_four;
+pub mod unsigned;
 pub mod wide;
 mod widths;

@@ -5,6 +5,7 @@ mod band_state;
 mod code_settings;
 pub mod code_word;
 pub mod column;
+mod eight_words;
 mod kept_code;
 pub mod laws;
 mod piece;

@@ -1,0 +1,66 @@
+-- Neighbours of words side by side, merged into one.
+use Rattle.std.proofs.Common.{◌≡◌, ℕ, ◌+◌, ◌*◌, ◌^◌, ◌<◌, ◌≤◌, ◌++◌, List, [], Bool, refl, sym, ap, ap₂, ◌∙◌, append_assoc, append-nil, arith}
+use Rattle.std.proofs.Math.Pow.{pow_mono}
+use Rattle.header_bits.specs.Bits.{bits_of}
+use Rattle.header_bits.proofs.Numbers.{bits_of-join}
+use Rattle.lanes.specs.Lanes.{number}
+use Rattle.sample_adaptive.specs.EightWords.{AreWords, ArePairs, texts}
+use Rattle.sample_adaptive.proofs.Forms.{both_below}
+
+-- a number of so many bits, which are those of two others
+pub record IsMerged (a n b m result length : ℕ) : Type 0 where
+  pub below : result < 2 ^ length
+  pub text : bits_of length result ≡ bits_of n a ++ bits_of m b
+
+-- the product with a power of two, and the sum, are exact where both words fit into so many bits
+merged : (most a n b m before power product behind result length : ℕ) → n + m ≤ most → a < 2 ^ n → b < 2 ^ m → before ≡ a → power ≡ 2 ^ m
+    → (before * power < 2 ^ most → product ≡ before * power) → behind ≡ b → (product + behind < 2 ^ most → result ≡ product + behind) → length ≡ n + m
+    → IsMerged a n b m result length
+merged most a n b m before power product behind result length few low high first pow times second plus len =
+    let fits = both_below n m a b low high in
+    let whole : 2 ^ (n + m) ≤ 2 ^ most = pow_mono few in
+    let p : product ≡ a * 2 ^ m = times (rw (first, pow) (omega (arith, fits, whole))) ∙ rw (first, pow) refl in
+    let e : result ≡ a * 2 ^ m + b = plus (rw (p, second) (omega (arith, fits, whole))) ∙ rw (p, second) refl in
+    record { below = rw (e, len) fits; text = rw (e, len) (bits_of-join n m a b high) }
+
+-- the same, lane by lane
+pub lanes_merged : (half most count : ℕ) (bits lengths before power product behind result before_lengths behind_lengths result_lengths : List ℕ) → half + half ≤ most → half + half < 2 ^ most
+    → AreWords half (2 * count) bits lengths
+    → ((k : ℕ) → k < count → number before k ≡ number bits (2 * k))
+    → ((k : ℕ) → k < count → number power k ≡ 2 ^ number lengths (2 * k + 1))
+    → ((k : ℕ) → k < count → number before k * number power k < 2 ^ most → number product k ≡ number before k * number power k)
+    → ((k : ℕ) → k < count → number behind k ≡ number bits (2 * k + 1))
+    → ((k : ℕ) → k < count → number product k + number behind k < 2 ^ most → number result k ≡ number product k + number behind k)
+    → ((k : ℕ) → k < count → number before_lengths k ≡ number lengths (2 * k))
+    → ((k : ℕ) → k < count → number behind_lengths k ≡ number lengths (2 * k + 1))
+    → ((k : ℕ) → k < count → number before_lengths k + number behind_lengths k < 2 ^ most → number result_lengths k ≡ number before_lengths k + number behind_lengths k)
+    → AreWords (half + half) count result result_lengths × ArePairs count result result_lengths bits lengths
+lanes_merged half most count bits lengths before power product behind result before_lengths behind_lengths result_lengths few room words first pow times second plus p q sum = (
+  record { length = λ i lt. rw (long i lt) (omega (arith, words.length (2 * i) (omega arith), words.length (2 * i + 1) (omega arith))); below = λ i lt. (one i lt).below },
+  λ i lt. (one i lt).text,
+)
+  where
+    long : (i : ℕ) → i < count → number result_lengths i ≡ number lengths (2 * i) + number lengths (2 * i + 1)
+    long i lt =
+        let e = ap₂ (λ x y. x + y) (p i lt) (q i lt) in
+        sum i lt (rw e (omega (arith, few, room, words.length (2 * i) (omega arith), words.length (2 * i + 1) (omega arith)))) ∙ e
+
+    one : (i : ℕ) → i < count
+        → IsMerged (number bits (2 * i)) (number lengths (2 * i)) (number bits (2 * i + 1)) (number lengths (2 * i + 1)) (number result i) (number result_lengths i)
+    one i lt =
+        merged most _ _ _ _ (number before i) (number power i) (number product i) (number behind i) _ _
+        (omega (arith, few, words.length (2 * i) (omega arith), words.length (2 * i + 1) (omega arith)))
+        (words.below (2 * i) (omega arith)) (words.below (2 * i + 1) (omega arith)) (first i lt) (pow i lt) (times i lt) (second i lt) (plus i lt) (long i lt)
+
+four_texts : (a b c d rest : List Bool) → ((a ++ b) ++ (c ++ d)) ++ rest ≡ a ++ (b ++ (c ++ (d ++ rest)))
+four_texts a b c d rest = append_assoc (a ++ b) (c ++ d) rest ∙ append_assoc a b ((c ++ d) ++ rest) ∙ ap (λ (x : List Bool). a ++ (b ++ x)) (append_assoc c d rest)
+
+-- two of four texts each are eight
+pub eight_texts : (text pair quad : ℕ → List Bool) → ((i : ℕ) → i < 4 → pair i ≡ text (2 * i) ++ text (2 * i + 1)) → ((i : ℕ) → i < 2 → quad i ≡ pair (2 * i) ++ pair (2 * i + 1))
+    → quad 0 ++ quad 1 ≡ texts text 0 8
+eight_texts text pair quad pairs quads =
+    let first = quads 0 (omega arith) ∙ ap₂ (λ (x y : List Bool). x ++ y) (pairs 0 (omega arith)) (pairs 1 (omega arith)) in
+    let second = quads 1 (omega arith) ∙ ap₂ (λ (x y : List Bool). x ++ y) (pairs 2 (omega arith)) (pairs 3 (omega arith)) in
+    ap₂ (λ (x y : List Bool). x ++ y) first (second ∙ sym (append-nil ((text 4 ++ text 5) ++ (text 6 ++ text 7))))
+    ∙ four_texts (text 0) (text 1) (text 2) (text 3) (((text 4 ++ text 5) ++ (text 6 ++ text 7)) ++ [])
+    ∙ ap (λ (x : List Bool). text 0 ++ (text 1 ++ (text 2 ++ (text 3 ++ x)))) (four_texts (text 4) (text 5) (text 6) (text 7) [])

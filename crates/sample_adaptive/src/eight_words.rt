@@ -1,0 +1,102 @@
+//! Eight code words side by side in lanes, merged and appended.
+
+ghost use Rattle.std.specs.Prelude.{◌≡◌, ◌+◌, ◌≤◌, ◌++◌};
+ghost use Rattle.sample_adaptive.specs.EightWords.{AreShort, AreWords, ArePairs, text_at, texts, word_text};
+
+use header_bits::bit_writer::BitWriter;
+use lanes::unsigned;
+use std::simd::prelude::*;
+
+/// Eight words of at most 14 bits: word i consists of the `lengths[i]` lowest bits of `bits[i]`, which has no others.
+#[derive(Clone, Copy)]
+pub(crate) struct EightWords {
+    pub bits: [u16; 8],
+    pub lengths: [u16; 8],
+}
+
+/// Appends eight words, the first one first, for which the writer has room.
+#[inline(always)]
+pub(crate) fn push_eight(writer: BitWriter, words: EightWords) -> BitWriter
+    requires words { AreShort words }
+    requires room { 112 ≤ writer.room }
+    ensures text { result.bits ≡ writer.bits ++ texts (word_text words) 0 8 }
+    ensures room { writer.room ≤ result.room + 112 }
+    ensures still { result.room ≤ writer.room }
+{
+    let quads = quads_of(pairs_of(words));
+    push_two(writer, quads)
+}
+
+/// Four words, each of two neighbours: at most 28 bits.
+#[derive(Clone, Copy)]
+struct Pairs {
+    bits: u32x4,
+    lengths: u32x4,
+}
+
+/// Two words, each of four neighbours: at most 56 bits.
+#[derive(Clone, Copy)]
+struct Quads {
+    bits: [u64; 2],
+    lengths: [u64; 2],
+}
+
+/// Merges each two neighbours of eight words.
+#[inline(always)]
+fn pairs_of(words: EightWords) -> Pairs
+    requires words { AreShort words }
+    ensures words { AreWords 28 4 result.bits result.lengths }
+    ensures pairs { ArePairs 4 result.bits result.lengths words.bits words.lengths }
+{
+    let bits = u16x8::from_array(words.bits);
+    let lengths = u16x8::from_array(words.lengths);
+    let behind = unsigned::odds(lengths);
+    let raised = unsigned::product(unsigned::evens(bits), unsigned::powers(behind));
+    Pairs {
+        bits: unsigned::sum(raised, unsigned::odds(bits)),
+        lengths: unsigned::sum(unsigned::evens(lengths), behind),
+    }
+}
+
+/// Merges each two neighbours of four words.
+///
+/// The powers are those of all four lengths: clang makes them faster so than those of two alone.
+#[inline(always)]
+fn quads_of(words: Pairs) -> Quads
+    requires words { AreWords 28 4 words.bits words.lengths }
+    ensures words { AreWords 56 2 result.bits result.lengths }
+    ensures pairs { ArePairs 2 result.bits result.lengths words.bits words.lengths }
+{
+    let powers = unsigned::long_odds(unsigned::powers(words.lengths));
+    let raised = unsigned::long_product(unsigned::long_evens(words.bits), powers);
+    let bits = unsigned::long_sum(raised, unsigned::long_odds(words.bits));
+    let lengths = unsigned::long_sum(
+        unsigned::long_evens(words.lengths),
+        unsigned::long_odds(words.lengths),
+    );
+    Quads {
+        bits: bits.to_array(),
+        lengths: lengths.to_array(),
+    }
+}
+
+/// Appends two words, which mostly fit into one push.
+#[inline(always)]
+fn push_two(writer: BitWriter, words: Quads) -> BitWriter
+    requires words { AreWords 56 2 words.bits words.lengths }
+    requires room { 112 ≤ writer.room }
+    ensures text { result.bits ≡ writer.bits ++ (text_at words.bits words.lengths 0 ++ text_at words.bits words.lengths 1) }
+    ensures room { writer.room ≤ result.room + 112 }
+    ensures still { result.room ≤ writer.room }
+{
+    let mut writer = writer;
+    let [first, second] = words.bits;
+    let [before, behind] = words.lengths;
+    if before + behind <= 64 {
+        writer.push_reserved((first << behind) + second, (before + behind) as u32);
+    } else {
+        writer.push_reserved(first, before as u32);
+        writer.push_reserved(second, behind as u32);
+    }
+    writer
+}
