@@ -3,3 +3,5 @@ pub mod Ranges
 pub mod Steps
 pub mod Turning
 pub mod TurningFour
+pub mod Plain
+pub mod Floats

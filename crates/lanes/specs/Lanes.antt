@@ -1,5 +1,6 @@
 -- The lanes of vectors, and what each step puts into one of them.
 use Rattle.std.specs.Prelude.{ℕ, ◌+◌, ◌*◌, ◌^◌, ℤ, pos, negsuc, ◌+ℤ◌, ◌*ℤ◌, List, [], slice_index_or}
+use lib.Ieee.{binary32, of_int, to_bits}
 use Rattle.std.specs.Int.{int_min, int_max, int_div_euclid}
 
 -- lane k of a vector
@@ -9,6 +10,10 @@ lane v k = slice_index_or v k (pos 0)
 -- lane k of a vector of numbers without a sign
 abbrev pub number : List ℕ → ℕ → ℕ
 number v k = slice_index_or v k 0
+
+-- the bits of a number as a float of 32 bits
+abbrev pub bits_as_float : ℕ → ℕ
+bits_as_float n = to_bits binary32 (of_int binary32 (pos n))
 
 -- what 16 bits hold of a number: the nearest that they have
 abbrev pub held : ℤ → ℤ

@@ -5,6 +5,7 @@
 //! `packssdw` in `wide::held` and `psubsw` in `narrow::held_difference`.
 #![tactic(auto)]
 
+pub mod eight;
 pub mod four;
 pub mod narrow;
 pub mod turn;
