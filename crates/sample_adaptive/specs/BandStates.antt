@@ -1,21 +1,20 @@
 -- The state of each band: its statistics, and a code parameter k.
-use Rattle.std.specs.Prelude.{ℕ, ◌≡◌, ◌+◌, ◌*◌, ◌^◌, ◌<◌, ◌≤◌, List, length, map, slice_index_or}
+use Rattle.std.specs.Prelude.{ℕ, ◌≡◌, ◌+◌, ◌^◌, ◌<◌, ◌≤◌, List, length, map, slice_index_or}
 use Rattle.sample_adaptive.specs.declared.code_settings.CodeSettings.{CodeSettings}
 use Rattle.sample_adaptive.specs.declared.statistics.Statistics.{Statistics}
 use Rattle.sample_adaptive.specs.declared.band_state.BandState.{BandState}
 use Rattle.sample_adaptive.specs.Statistics.{AreStatistics}
 use Rattle.sample_adaptive.specs.Taken.{no_statistics}
 
--- the statistics are in range, k is at most D - 2, and 2^k and Γ·2^k are stored beside it
+-- the statistics are in range, k is at most D - 2, and 2^k is stored beside it
 pub record IsBandState (settings : CodeSettings) (t : BandState) : Type 0 where
   pub statistics : AreStatistics settings.rescaling.size t.statistics
   pub k : t.k + 2 ≤ settings.bits
   pub power : t.power ≡ 2 ^ t.k
-  pub scaled_counter : t.scaled_counter ≡ t.statistics.counter * 2 ^ t.k
 
 -- a placeholder for the state of a band that doesn't exist
 abbrev pub no_state : BandState
-no_state = record { statistics = no_statistics; k = 0; power = 0; scaled_counter = 0 }
+no_state = record { statistics = no_statistics; k = 0; power = 0 }
 
 -- the state of a band
 abbrev pub state_of : List BandState → ℕ → BandState

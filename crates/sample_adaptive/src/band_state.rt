@@ -10,18 +10,14 @@ use crate::code_settings::CodeSettings;
 use crate::statistics::{Statistics, counted, halved, level, parameter, rare_parameter};
 use crate::thresholds::ROW;
 
-/// The statistics of a band, and the code parameter of its last residual, which most residuals leave as it was.
-///
-/// Γ·2^k is stored, so that two comparisons mostly show that k is still right.
+/// The statistics of a band, and the code parameter of an earlier residual, which most residuals leave as it was.
 #[derive(Clone, Copy)]
 pub(crate) struct BandState {
     pub statistics: Statistics,
-    /// k, the code parameter of the last residual.
+    /// k, the code parameter of an earlier residual.
     pub k: u32,
     /// 2^k.
     pub power: u32,
-    /// Γ·2^k.
-    pub scaled_counter: u32,
 }
 
 impl BandState {
@@ -38,7 +34,6 @@ impl BandState {
             statistics,
             k,
             power: 1 << k,
-            scaled_counter: statistics.counter << k,
         }
     }
 
@@ -54,7 +49,6 @@ impl BandState {
             statistics,
             k,
             power: 1 << k,
-            scaled_counter: statistics.counter << k,
         }
     }
 
@@ -68,8 +62,9 @@ impl BandState {
         ensures value { self.new.k ≡ code_parameter settings.bits self.old.statistics }
         ensures state { IsBandState settings self.new }
     {
+        let scaled_counter = self.statistics.counter << self.k;
         let level = level(self.statistics);
-        if self.scaled_counter <= level && level < 2 * self.scaled_counter {
+        if scaled_counter <= level && level < 2 * scaled_counter {
             return;
         }
         *self = BandState::of(settings, self.statistics);
@@ -105,10 +100,8 @@ impl BandState {
     {
         if self.statistics.counter < settings.rescaling.greatest {
             self.statistics = counted(self.statistics, residual);
-            self.scaled_counter += self.power;
             return;
         }
         self.statistics = halved(self.statistics, residual);
-        self.scaled_counter = self.statistics.counter << self.k;
     }
 }

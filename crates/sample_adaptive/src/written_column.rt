@@ -11,9 +11,12 @@ ghost use Rattle.sample_adaptive.specs.Thresholds.{AreThresholds};
 
 use crate::band_state::BandState;
 use crate::code_settings::CodeSettings;
-use crate::code_word::{Code, Word, joined, word_of};
+use crate::code_word::{Code, Word, word_of};
+use crate::column_lanes::{coded, store};
+use crate::eight_words::push_eight;
 use crate::stats::Stats;
-use crate::written_run::{make_room, put_long};
+use crate::written_run::make_room;
+use crate::written_singly::put_each;
 use core::mem::replace;
 use cube_core::fault::Fault;
 use header_bits::bit_writer::BitWriter;
@@ -89,12 +92,12 @@ fn put_words_of(
     if t == 0 {
         return put_firsts(writer, settings, residuals);
     }
-    put_joined(writer, settings, thresholds, z, bands, residuals)
+    put_later(writer, settings, thresholds, z, bands, residuals)
 }
 
-/// `put_words_of` for residuals none of which is the first of its band. Code words of at most 16 bits are joined, four to a push.
+/// `put_words_of` for residuals none of which is the first of its band: eight at a time, and the last ones singly.
 #[inline(always)]
-fn put_joined(
+fn put_later(
     writer: BitWriter,
     settings: CodeSettings,
     thresholds: &[u32],
@@ -116,107 +119,61 @@ fn put_joined(
 {
     let mut writer = writer;
     let mut i = 0;
-    let none = Word { bits: 0, length: 0 };
-    while i + 4 <= residuals.len() {
+    while i + 8 <= residuals.len() {
         let at = z as usize + i;
-        let a = join_band(
+        writer = put_eight(
             writer,
             settings,
             thresholds,
-            &mut bands[at],
-            residuals[i],
-            none,
+            at,
+            bands,
+            &residuals[i..i + 8],
         );
-        let b = join_band(
-            a.0,
-            settings,
-            thresholds,
-            &mut bands[at + 1],
-            residuals[i + 1],
-            a.1,
-        );
-        let c = join_band(
-            b.0,
-            settings,
-            thresholds,
-            &mut bands[at + 2],
-            residuals[i + 2],
-            b.1,
-        );
-        let d = join_band(
-            c.0,
-            settings,
-            thresholds,
-            &mut bands[at + 3],
-            residuals[i + 3],
-            c.1,
-        );
-        writer = d.0;
-        writer.push_reserved(d.1.bits, d.1.length);
-        i += 4;
+        i += 8;
     }
-    while i < residuals.len() {
-        let at = z as usize + i;
-        let one = join_band(
-            writer,
-            settings,
-            thresholds,
-            &mut bands[at],
-            residuals[i],
-            none,
-        );
-        writer = one.0;
-        writer.push_reserved(one.1.bits, one.1.length);
-        i += 1;
+    if i == residuals.len() {
+        return writer;
     }
-    writer
+    put_each(
+        writer,
+        settings,
+        thresholds,
+        z as usize + i,
+        bands,
+        &residuals[i..],
+    )
 }
 
-/// Joins words with the code word of a band's next residual, which isn't its first, and updates the band's state. Returns the words
-/// that aren't appended.
+/// Appends the code words of eight residuals from band `at` on, in lanes if all of them are short and the bands have one counter.
 #[inline(always)]
-fn join_band(
+fn put_eight(
     writer: BitWriter,
     settings: CodeSettings,
     thresholds: &[u32],
-    state: &mut BandState,
-    residual: u16,
-    words: Word,
-) -> (BitWriter, Word)
+    at: usize,
+    bands: &mut [BandState],
+    residuals: &[u16],
+) -> BitWriter
     requires table { AreThresholds settings.bits settings.rescaling.size thresholds.now }
-    requires state { IsBandState settings state.old }
-    requires residual { residual < 2 ^ settings.bits }
-    requires words { (words.bits < 2 ^ words.length) × (words.length ≤ 48) }
-    requires room { words.length + 48 ≤ writer.room }
-    ensures text { (v : CoderState) (z t : ℕ) → 0 < t → HasSettings v settings.bits settings.limit settings.rescaling.size → of_band v.bands z ≡ state.old.statistics
-        → result.0.bits ++ bits_of result.1.length result.1.bits ≡ (writer.bits ++ bits_of words.length words.bits) ++ code_word (code_by v z t) residual }
-    ensures counts { (v : CoderState) (z t : ℕ) → 0 < t → HasSettings v settings.bits settings.limit settings.rescaling.size
-        → of_band v.bands z ≡ state.old.statistics → counted v z t residual ≡ with_band v z state.new.statistics }
-    ensures state { IsBandState settings state.new }
-    ensures words { (result.1.bits < 2 ^ result.1.length) × (result.1.length ≤ words.length + 16) }
-    ensures room { writer.room + result.1.length ≤ result.0.room + words.length + 48 }
-    ensures still { result.0.room ≤ writer.room }
+    requires state { AreBandStates settings bands.old }
+    requires inside { at + length residuals.now ≤ length bands.old }
+    requires eight { length residuals.now ≡ 8 }
+    requires few { length residuals.now ≤ 2 ^ 16 }
+    requires residuals { AllByRecursion (λ n. n < 2 ^ settings.bits) residuals.now }
+    requires room { 48 * length residuals.now ≤ writer.room }
+    ensures written { (v : CoderState) (t : ℕ) → 0 < t → v.bands ≡ statistics_of bands.old → HasSettings v settings.bits settings.limit settings.rescaling.size
+        → WritesColumn at t residuals.now v writer.bits (record v { bands = statistics_of bands.new }) result.bits }
+    ensures state { AreBandStates settings bands.new }
+    ensures bands { length bands.new ≡ length bands.old }
+    ensures still { result.room ≤ writer.room }
+    ensures room { writer.room ≤ result.room + 384 }
 {
-    state.settle(settings, thresholds);
-    let k = state.k;
-    let one = u64::from(state.power);
-    state.count(settings, residual);
-    let quotient = u32::from(residual) >> k;
-    let length = quotient + 1 + k;
-    if quotient < settings.limit && length <= 16 {
-        let word = Word {
-            bits: one + (u64::from(residual) & (one - 1)),
-            length,
-        };
-        return (writer, joined(words, word));
+    let coded = coded(settings, bands, at, residuals, 0);
+    if coded.alike && coded.short {
+        store(bands, at, coded.counter, &coded.accumulators);
+        return push_eight(writer, coded.words);
     }
-    let code = Code {
-        limit: settings.limit,
-        k,
-        bits: settings.bits,
-    };
-    let none = Word { bits: 0, length: 0 };
-    (put_long(writer, words, code, residual), none)
+    put_each(writer, settings, thresholds, at, bands, residuals)
 }
 
 /// Appends the code words of residuals each of which is the first of its band, for which the writer has room. They don't count.

@@ -1,6 +1,6 @@
 use Rattle.std.proofs.Common.{rules, arith}
 use Rattle.sample_adaptive.specs.Statistics.{next_statistics, AreStatistics}
-use Rattle.sample_adaptive.proofs.Counting.{counter_range, halved_in_range, product_whole}
+use Rattle.sample_adaptive.proofs.Counting.{halved_in_range}
 use Rattle.sample_adaptive.proofs.band_state.BandState.count.Goals as goal
 
 pub returns-clause-state : goal.returns-clause-state
@@ -13,7 +13,6 @@ returns-clause-state c =
       statistics = halved;
       k = c.requires.k;
       power = c.requires.power;
-      scaled_counter = product_whole _ _ (counter_range _ _ rescaling.size_in.1 halved).1 (omega (arith, c.requires.k, c.args.settings.bits_in));
     }
 
 pub returns-then-self-settings-clause-value : goal.returns-then-self-settings-clause-value
