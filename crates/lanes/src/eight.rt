@@ -101,7 +101,7 @@ pub fn rests(a: u16x8, powers: u16x8) -> u16x8
 pub fn are_within(a: u16x8, most: u16x8) -> bool
     ensures { IsTrue result → (k : ℕ) → k < 8 → number a k ≤ number most k }
 {
-    a.saturating_sub(most).reduce_or() == 0
+    a.simd_le(most).all()
 }
 
 /// Returns whether all lanes have this number.

@@ -20,7 +20,7 @@ use std::simd::prelude::*;
 /// What the next residuals of eight bands are written as, and the bands' statistics after them.
 #[derive(Clone, Copy)]
 pub(crate) struct CodedBands {
-    /// Whether the bands have one counter. Else nothing else holds.
+    /// Whether the bands have the counter. Else nothing else holds.
     pub alike: bool,
     /// Whether the words are the code words: none is an escape, and none has more than 14 bits.
     pub short: bool,
@@ -29,15 +29,17 @@ pub(crate) struct CodedBands {
     pub accumulators: [u32; 8],
 }
 
-/// Codes residuals `i` to `i + 7` of a column in lanes, the first of them that of band `at`, by the bands' statistics.
+/// Codes residuals `i` to `i + 7` of a column in lanes, the first of them that of band `at`, if the bands have this counter.
 #[inline(always)]
 pub(crate) fn coded(
     settings: CodeSettings,
+    counter: u32,
     bands: &[BandState],
     at: usize,
     residuals: &[u16],
     i: usize,
 ) -> CodedBands
+    requires counter { (1 ≤ counter) × (counter < 2 ^ 9) }
     requires state { AreBandStates settings bands.now }
     requires bands { at + 8 ≤ length bands.now }
     requires inside { i + 8 ≤ length residuals.now }
@@ -48,7 +50,6 @@ pub(crate) fn coded(
         ≡ next_statistics settings.rescaling.size (state_of bands.now (at + j)).statistics (slice_index_or residuals.now (i + j) 0) }
 {
     let before = gathered(bands, at);
-    let counter = bands[at].statistics.counter;
     let numbers = taken(residuals, i);
     let accumulators = u32x8::from_array(before.accumulators);
     let k = parameters(settings.bits, counter, accumulators);

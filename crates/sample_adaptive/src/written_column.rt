@@ -117,6 +117,10 @@ fn put_later(
     ensures bands { length bands.new ≡ length bands.old }
     ensures still { result.room ≤ writer.room }
 {
+    if residuals.is_empty() {
+        return writer;
+    }
+    let counter = bands[z as usize].statistics.counter;
     let mut writer = writer;
     let mut i = 0;
     while i + 8 <= residuals.len() {
@@ -125,6 +129,7 @@ fn put_later(
             writer,
             settings,
             thresholds,
+            counter,
             at,
             bands,
             &residuals[i..i + 8],
@@ -144,18 +149,20 @@ fn put_later(
     )
 }
 
-/// Appends the code words of eight residuals from band `at` on, in lanes if all of them are short and the bands have one counter.
+/// Appends the code words of eight residuals from band `at` on, in lanes if all of them are short and the bands have this counter.
 #[inline(always)]
 fn put_eight(
     writer: BitWriter,
     settings: CodeSettings,
     thresholds: &[u32],
+    counter: u32,
     at: usize,
     bands: &mut [BandState],
     residuals: &[u16],
 ) -> BitWriter
     requires table { AreThresholds settings.bits settings.rescaling.size thresholds.now }
     requires state { AreBandStates settings bands.old }
+    requires counter { (1 ≤ counter) × (counter < 2 ^ 9) }
     requires inside { at + length residuals.now ≤ length bands.old }
     requires eight { length residuals.now ≡ 8 }
     requires few { length residuals.now ≤ 2 ^ 16 }
@@ -168,7 +175,7 @@ fn put_eight(
     ensures still { result.room ≤ writer.room }
     ensures room { writer.room ≤ result.room + 384 }
 {
-    let coded = coded(settings, bands, at, residuals, 0);
+    let coded = coded(settings, counter, bands, at, residuals, 0);
     if coded.alike && coded.short {
         store(bands, at, coded.counter, &coded.accumulators);
         return push_eight(writer, coded.words);

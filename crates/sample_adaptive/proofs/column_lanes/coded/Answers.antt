@@ -9,9 +9,6 @@ use Rattle.sample_adaptive.proofs.Counting.{counter_range, accumulator_range}
 use Rattle.sample_adaptive.proofs.LaneStates.{next_lane}
 use Rattle.sample_adaptive.proofs.column_lanes.coded.Goals as goal
 
-pub parameters-k-requires-clause-counter : goal.parameters-k-requires-clause-counter
-parameters-k-requires-clause-counter c = counter_range _ _ c.args.settings.rescaling.size_in.1 (c.requires.state c.args.at (omega (arith, c.requires.bands))).statistics
-
 pub parameters-k-requires-clause-accumulators : goal.parameters-k-requires-clause-accumulators
 parameters-k-requires-clause-accumulators c j lt =
     let own = (c.requires.state (c.args.at + j) (omega (arith, c.requires.bands, lt))).statistics in
@@ -25,7 +22,7 @@ summed-after-requires-clause-accumulators c j lt =
 pub returns-clause-text : goal.returns-clause-text
 returns-clause-text c alike short j lt =
     let s : Statistics = (state_of c.args.bands.now (c.args.at + j)).statistics in
-    let same : record { counter = (state_of c.args.bands.now c.args.at).statistics.counter; accumulator = number c.gathered-before.result.accumulators j } ≡ s =
+    let same : record { counter = c.args.counter; accumulator = number c.gathered-before.result.accumulators j } ≡ s =
     ap₂ (λ (p q : ℕ). record { counter = p; accumulator = q }) (sym (c.are_all-alike.ensures alike j lt) ∙ c.gathered-before.ensures.counters j lt)
     (c.gathered-before.ensures.accumulators j lt) in
     let k : number c.parameters-k.result j ≡ code_parameter c.args.settings.bits s = c.parameters-k.ensures.value j lt ∙ ap (code_parameter c.args.settings.bits) same in
@@ -39,7 +36,7 @@ returns-clause-statistics c alike j lt =
     let h : ℕ = c.from-halving.result in
     let size : ℕ = c.args.settings.rescaling.size in
     let range = (c.requires.state (c.args.at + j) (omega (arith, c.requires.bands, lt))).statistics in
-    let counter : (state_of c.args.bands.now c.args.at).statistics.counter ≡ s.counter = sym (c.are_all-alike.ensures alike j lt) ∙ c.gathered-before.ensures.counters j lt in
+    let counter : c.args.counter ≡ s.counter = sym (c.are_all-alike.ensures alike j lt) ∙ c.gathered-before.ensures.counters j lt in
     let halving : h ≡ bool_byte (eqb s.counter (2 ^ size - 1)) = c.from-halving.ensures ∙ ap₂ (λ (p q : ℕ). bool_byte (eqb p q)) counter c.args.settings.rescaling.greatest_is in
     let sum : number c.summed-after.result j ≡ (s.accumulator + x + h) / 2 ^ h =
     c.summed-after.ensures j lt ∙ ap₂ (λ (p q : ℕ). (p + q + h) / 2 ^ h) (c.gathered-before.ensures.accumulators j lt) (c.taken-numbers.ensures j lt) in

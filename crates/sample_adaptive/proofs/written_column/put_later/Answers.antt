@@ -3,8 +3,13 @@ use Rattle.std.proofs.lemmas.List.{take_all}
 use Rattle.sample_adaptive.specs.BandStates.{statistics_of}
 use Rattle.sample_adaptive.specs.Taken.{CoderState}
 use Rattle.sample_adaptive.proofs.Columns.{column_after}
+use Rattle.sample_adaptive.proofs.Counting.{counter_range}
 use Rattle.sample_adaptive.proofs.Tracking.{settings_stay}
 use Rattle.sample_adaptive.proofs.written_column.put_later.Goals as goal
+
+pub put_eight-writer-requires-clause-counter : goal.put_eight-writer-requires-clause-counter
+put_eight-writer-requires-clause-counter c =
+    counter_range _ _ c.args.settings.rescaling.size_in.1 (c.requires.state c.args.z (omega (arith, c.requires.inside, c.loop-i-test.true))).statistics
 
 pub loop-i-preserved : goal.loop-i-preserved
 loop-i-preserved c =
