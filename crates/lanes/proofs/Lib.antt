@@ -1,4 +1,6 @@
+pub mod MaskSteps
 pub mod Numbers
+pub mod PrefixSums
 pub mod Ranges
 pub mod Steps
 pub mod Turning

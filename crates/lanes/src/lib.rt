@@ -7,6 +7,8 @@
 
 pub mod eight;
 pub mod four;
+pub mod lines;
+pub mod masks;
 pub mod narrow;
 pub mod turn;
 pub mod turn_four;
