@@ -44,7 +44,7 @@ ended_in_range gamma_star s counter least h full half =
 
 -- ---- the code parameter between two entries of the table
 
-entry_is : (bits size k counter place : ℕ) (table : List ℕ) → AreThresholds bits size table → k ≤ bits → counter < 2 ^ size → place ≡ 520 * k + counter
+pub entry_is : (bits size k counter place : ℕ) (table : List ℕ) → AreThresholds bits size table → k ≤ bits → counter < 2 ^ size → place ≡ 520 * k + counter
     → get_or table place 0 ≡ threshold bits k counter
 entry_is bits size k counter place table h within below is = ap (λ p. get_or table p 0) is ∙ h.entries k counter within (omega (arith, below))
 

@@ -52,7 +52,7 @@ all_rows bits size rows table most h = record { size = h.size; entries = λ j co
 
 -- ---- the code parameter between two thresholds
 
-threshold_mid : (bits j counter : ℕ) → 0 < j → j ≤ bits - 2 → threshold bits j counter ≡ counter * 2 ^ j - 49 * counter / 128
+pub threshold_mid : (bits j counter : ℕ) → 0 < j → j ≤ bits - 2 → threshold bits j counter ≡ counter * 2 ^ j - 49 * counter / 128
 unfolding threshold
 threshold_mid bits j counter some few = rw (ne_eqb j 0 (λ e. omega (arith, some, e)), le-ltb (bits - 2) j few) refl
 

@@ -1,11 +1,11 @@
 //! Runs of one band's code words, written.
 
-ghost use Rattle.std.specs.Prelude.{◌≡◌, ◌+◌, ◌*◌, ◌^◌, ◌<◌, ◌≤◌, ◌++◌, List, Bool, length, take, max, IsOk, IfErr, OnOk, ℕ};
+ghost use Rattle.std.specs.Prelude.{◌≡◌, ◌+◌, ◌-◌, ◌*◌, ◌^◌, ◌<◌, ◌≤◌, ◌++◌, List, Bool, length, take, max, IsOk, IfErr, OnOk, ℕ};
 ghost use Rattle.std.specs.List.{AllByRecursion, sum};
 ghost use Rattle.cube_core.specs.declared.fault.Fault.TheVariants.{WantOfMemory};
 ghost use Rattle.header_bits.specs.Bits.{bits_of};
 ghost use Rattle.sample_adaptive.specs.BandStates.{IsBandState};
-ghost use Rattle.sample_adaptive.specs.Runs.{IsKeptCode, IsPiece, sum_after, words_from};
+ghost use Rattle.sample_adaptive.specs.Runs.{IsKeptCode, IsKeptCodes, IsPiece, sum_after, words_from};
 ghost use Rattle.sample_adaptive.specs.Statistics.{AreStatistics, statistics_from};
 ghost use Rattle.sample_adaptive.specs.Taken.{CoderState, HasSettings, Writes, of_band, with_band};
 ghost use Rattle.sample_adaptive.specs.Thresholds.{AreThresholds};
@@ -14,7 +14,9 @@ ghost use Rattle.sample_adaptive.specs.Words.{IsCode, code_word};
 use crate::band_state::BandState;
 use crate::code_settings::CodeSettings;
 use crate::code_word::{Code, Word, joined, word_of};
+use crate::eight_run::{LaneState, put_eight};
 use crate::kept_code::KeptCode;
+use crate::kept_codes::KeptCodes;
 use crate::statistics::{Rescaling, Statistics};
 use cube_core::fault::Fault;
 use header_bits::bit_writer::BitWriter;
@@ -51,6 +53,7 @@ pub(crate) fn put_words(writer: BitWriter, run: LaterRun) -> (BitWriter, BandSta
     let mut state = run.state;
     let settings = run.settings;
     let residuals = run.residuals;
+    let mut codes = KeptCodes::of(settings.bits, settings.limit, state.k);
     let mut i = 0;
     while i < residuals.len() {
         let most = (settings.rescaling.greatest + 1 - state.statistics.counter) as usize;
@@ -61,58 +64,63 @@ pub(crate) fn put_words(writer: BitWriter, run: LaterRun) -> (BitWriter, BandSta
             state,
             residuals: &residuals[i..i + count],
         };
-        let after = put_piece(writer, piece);
+        let after = put_piece(writer, piece, codes);
         writer = after.0;
         state = after.1;
+        codes = after.2;
         i += count;
     }
     (writer, state)
 }
 
-/// Appends the code words of residuals, after the last of which at most the statistics are halved, and returns the band's state after them.
+/// Appends the code words of residuals, after the last of which at most the statistics are halved. Returns the band's state after them, and
+/// the two code parameters that are kept.
 #[inline(always)]
-fn put_piece(writer: BitWriter, run: LaterRun) -> (BitWriter, BandState)
+fn put_piece(
+    writer: BitWriter,
+    run: LaterRun,
+    codes: KeptCodes,
+) -> (BitWriter, BandState, KeptCodes)
     requires state { IsBandState run.settings run.state }
     requires some { 0 < length run.residuals.now }
     requires piece { IsPiece run.settings run.state.statistics run.thresholds.now run.residuals.now }
+    requires kept { IsKeptCodes run.settings.bits run.settings.limit codes }
     requires room { 48 * length run.residuals.now ≤ writer.room }
     ensures text { result.0.bits ≡ writer.bits ++ words_from run.entry.settings run.entry.state.statistics run.entry.residuals.now }
     ensures statistics { result.1.statistics ≡ statistics_from run.entry.settings.rescaling.size run.entry.state.statistics run.entry.residuals.now }
     ensures state { IsBandState run.entry.settings result.1 }
+    ensures kept { IsKeptCodes run.entry.settings.bits run.entry.settings.limit result.2 }
     ensures still { result.0.room ≤ writer.room }
     ensures room { writer.room ≤ result.0.room + 48 * length run.entry.residuals.now }
 {
+    let settings = run.settings;
+    let statistics = run.state.statistics;
     let mut writer = writer;
-    let mut state = PieceState {
-        kept: KeptCode::of(
-            run.settings.bits,
-            run.settings.limit,
-            run.state.statistics.counter,
-            run.state.k,
-        ),
-        accumulator: run.state.statistics.accumulator,
+    let mut state = LaneState {
+        codes,
+        accumulator: statistics.accumulator,
     };
     let count = run.residuals.len();
     let mut i = 0;
-    while i + 4 <= count {
-        let after = put_four(writer, run, state, i);
+    while i + 8 <= count {
+        let after = put_eight(writer, run, state, i);
         writer = after.0;
         state = after.1;
-        i += 4;
+        i += 8;
     }
-    while i < count {
-        let after = put_one(writer, run, state, i);
-        writer = after.0;
-        state = after.1;
-        i += 1;
-    }
-    let statistics = after_piece(
-        run.settings.rescaling,
-        run.state.statistics,
-        count as u32,
-        state.accumulator,
-    );
-    (writer, BandState::with_parameter(statistics, state.kept.k))
+    let first = statistics.counter as usize + i;
+    let k = state
+        .codes
+        .nearer(settings.bits, run.thresholds, first, state.accumulator);
+    let single = PieceState {
+        kept: KeptCode::of(settings.bits, settings.limit, statistics.counter, k),
+        accumulator: state.accumulator,
+    };
+    let rest = put_each(writer, run, single, i, count);
+    let accumulator = rest.1.accumulator;
+    let statistics = after_piece(settings.rescaling, statistics, count as u32, accumulator);
+    let after = BandState::with_parameter(statistics, state.codes.k);
+    (rest.0, after, state.codes)
 }
 
 /// Returns the statistics after residuals at whose end at most they are halved, by how many they are and by the accumulator after them.
@@ -139,41 +147,41 @@ fn after_piece(rescaling: Rescaling, s: Statistics, count: u32, accumulator: u32
 
 /// What changes from residual to residual of a piece: the code parameter, and the sum so far.
 #[derive(Clone, Copy)]
-struct PieceState {
-    kept: KeptCode,
-    accumulator: u32,
+pub(crate) struct PieceState {
+    pub kept: KeptCode,
+    pub accumulator: u32,
 }
 
-/// Appends the code words of residuals `i` to `i + 3` of a piece, and returns the state after them.
-///
-/// Words of at most 16 bits are joined, and pushed at once.
+/// Appends the code words of residuals `first` to `last - 1` of a piece, one after another, and returns the state after them.
 #[inline(always)]
-fn put_four(
+pub(crate) fn put_each(
     writer: BitWriter,
     run: LaterRun,
     state: PieceState,
-    i: usize,
+    first: usize,
+    last: usize,
 ) -> (BitWriter, PieceState)
     requires piece { IsPiece run.settings run.state.statistics run.thresholds.now run.residuals.now }
-    requires within { i + 4 ≤ length run.residuals.now }
+    requires order { first ≤ last }
+    requires within { last ≤ length run.residuals.now }
     requires kept { IsKeptCode run.settings.bits run.settings.limit run.state.statistics.counter state.kept }
-    requires sum { state.accumulator ≡ sum_after run.state.statistics run.residuals.now i }
-    requires room { 192 ≤ writer.room }
-    ensures text { (old : List Bool) → writer.bits ≡ old ++ words_from run.entry.settings run.entry.state.statistics (take i run.entry.residuals.now)
-        → result.0.bits ≡ old ++ words_from run.entry.settings run.entry.state.statistics (take (i + 4) run.entry.residuals.now) }
+    requires sum { state.accumulator ≡ sum_after run.state.statistics run.residuals.now first }
+    requires room { 48 * (last - first) ≤ writer.room }
+    ensures text { (old : List Bool) → writer.bits ≡ old ++ words_from run.entry.settings run.entry.state.statistics (take first run.entry.residuals.now)
+        → result.0.bits ≡ old ++ words_from run.entry.settings run.entry.state.statistics (take last run.entry.residuals.now) }
     ensures kept { IsKeptCode run.entry.settings.bits run.entry.settings.limit run.entry.state.statistics.counter result.1.kept }
-    ensures sum { result.1.accumulator ≡ sum_after run.entry.state.statistics run.entry.residuals.now (i + 4) }
-    ensures room { writer.room ≤ result.0.room + 192 }
+    ensures sum { result.1.accumulator ≡ sum_after run.entry.state.statistics run.entry.residuals.now last }
+    ensures room { writer.room ≤ result.0.room + 48 * (last - first) }
     ensures still { result.0.room ≤ writer.room }
 {
-    let none = Word { bits: 0, length: 0 };
-    let a = join_next(writer, run, state, i, none);
-    let b = join_next(a.0, run, a.1, i + 1, a.2);
-    let c = join_next(b.0, run, b.1, i + 2, b.2);
-    let d = join_next(c.0, run, c.1, i + 3, c.2);
-    let mut writer = d.0;
-    writer.push_reserved(d.2.bits, d.2.length);
-    (writer, d.1)
+    let mut writer = writer;
+    let mut state = state;
+    for i in first..last {
+        let after = put_one(writer, run, state, i);
+        writer = after.0;
+        state = after.1;
+    }
+    (writer, state)
 }
 
 /// Appends the code word of residual `i` of a piece, and returns the state after it.
