@@ -141,19 +141,23 @@ small_residual m k l long few =
     let most : 2 ^ (q + k) ≤ 2 ^ 13 = pow_mono {i = q + k} {j = 13} (omega (arith, long, few)) in
     omega (arith, split, rest, next, product, pow-add 2 q k, most)
 
-pub short_word : (limit bits k x b l : ℕ) → IsPlainWord k (min x 32767) b l → l ≤ 14 → l ≤ limit + k
+pub plain_lane : (limit bits k x b l : ℕ) → IsPlainWord k (min x 32767) b l → x ≤ 32767 → l ≤ limit + k
     → (b < 2 ^ l) × (bits_of l b ≡ code_word (record { limit = limit; k = k; bits = bits }) x)
-short_word limit bits k x b l word few within =
-    let small = small_residual (min x 32767) k l word.long few in
-    let same : min x 32767 ≡ x =
-    elim (cases_lt x 32767) [
-      | inl less ↦ min-eq_left (omega (arith, less))
-      | inr more ↦ (let most = min-eq_right more in absurd (omega (arith, most, small)))
-    ] in
+plain_lane limit bits k x b l word small within =
+    let same : min x 32767 ≡ x = min-eq_left small in
     let code : Code = record { limit = limit; k = k; bits = bits } in
     let long : l ≡ x / 2 ^ k + 1 + k = rw same at word.long in
     let low : b ≡ 2 ^ k + x % 2 ^ k = rw same at word.low in
     rw (long, low) (plain_below (x / 2 ^ k) k x, plain_word code x (omega (arith, long, within)))
+
+pub short_word : (limit bits k x b l : ℕ) → IsPlainWord k (min x 32767) b l → l ≤ 14 → l ≤ limit + k
+    → (b < 2 ^ l) × (bits_of l b ≡ code_word (record { limit = limit; k = k; bits = bits }) x)
+short_word limit bits k x b l word few within =
+    let small = small_residual (min x 32767) k l word.long few in
+    elim (cases_lt x 32767) [
+      | inl less ↦ plain_lane limit bits k x b l word (omega (arith, less)) within
+      | inr more ↦ (let most = min-eq_right more in absurd (omega (arith, most, small)))
+    ]
 
 -- ---- the text of eight words
 

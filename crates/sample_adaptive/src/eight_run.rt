@@ -6,7 +6,7 @@ ghost use Rattle.sample_adaptive.specs.EightWords.{AreShort, word_text};
 ghost use Rattle.sample_adaptive.specs.Runs.{AreLaneWords, AreNeighbours, IsKeptCodes, IsPiece, sum_after, text_within, words_from};
 ghost use Rattle.sample_adaptive.specs.Thresholds.{threshold};
 
-use crate::eight_words::{EightWords, push_eight};
+use crate::eight_words::{EightWords, push_eight, push_long_eight};
 use crate::kept_code::KeptCode;
 use crate::kept_codes::{KeptCodes, lower_parameter};
 use crate::lane_words::{LaneWords, lane_words};
@@ -50,12 +50,15 @@ pub(crate) fn put_eight(
     let last = lines::last(before);
     if are_neighbours(run, codes, state.accumulator, before, i) {
         let words = words_of(run, codes, before, i);
+        let after = LaneState {
+            codes,
+            accumulator: last + u32::from(run.residuals[i + 7]),
+        };
         if eight::are_within(words.lengths, codes.longest) {
-            let after = LaneState {
-                codes,
-                accumulator: last + u32::from(run.residuals[i + 7]),
-            };
             return (push_eight(writer, eight_of(words)), after);
+        }
+        if are_plain(run, codes, words, i) {
+            return (push_long_eight(writer, eight_of(words)), after);
         }
     }
     put_rarely(writer, run, state, i)
@@ -145,6 +148,20 @@ fn words_of(run: LaterRun, codes: KeptCodes, before: u32x8, i: usize) -> LaneWor
     let residuals = lines::numbers_at(run.residuals, i);
     let lower = masks::where_less(before, thresholds_of(run, codes, 1, i));
     lane_words(codes, residuals, lower)
+}
+
+/// Returns whether the words of residuals `i` to `i + 7` of a piece are their code words: no residual is above 32,767, and none needs an escape.
+#[inline(always)]
+fn are_plain(run: LaterRun, codes: KeptCodes, words: LaneWords, i: usize) -> bool
+    requires within { i + 8 ≤ length run.residuals.now }
+    requires kept { IsKeptCodes run.settings.bits run.settings.limit codes }
+    ensures small { IsTrue result → (j : ℕ) → j < 8 → slice_index_or run.entry.residuals.now (i + j) 0 ≤ 32767 }
+    ensures plain { IsTrue result → (j : ℕ) → j < 8 → number words.lengths j ≤ run.entry.settings.limit + codes.k }
+{
+    let residuals = lines::numbers_at(run.residuals, i);
+    let longest = (run.settings.limit + codes.k) as u16;
+    eight::are_within(words.lengths, u16x8::splat(longest))
+        && eight::are_within(residuals, u16x8::splat(32767))
 }
 
 /// Returns eight words as arrays.

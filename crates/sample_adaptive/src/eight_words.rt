@@ -27,6 +27,22 @@ pub(crate) fn push_eight(writer: BitWriter, words: EightWords) -> BitWriter
     push_two(writer, quads)
 }
 
+/// Appends eight words of at most 48 bits, one after another, for which the writer has room.
+#[inline(always)]
+pub(crate) fn push_long_eight(writer: BitWriter, words: EightWords) -> BitWriter
+    requires words { AreWords 48 8 words.bits words.lengths }
+    requires room { 384 ≤ writer.room }
+    ensures text { result.bits ≡ writer.bits ++ texts (word_text words) 0 8 }
+    ensures room { writer.room ≤ result.room + 384 }
+    ensures still { result.room ≤ writer.room }
+{
+    let mut writer = writer;
+    for i in 0..8usize {
+        writer.push_reserved(u64::from(words.bits[i]), u32::from(words.lengths[i]));
+    }
+    writer
+}
+
 /// Four words, each of two neighbours: at most 28 bits.
 #[derive(Clone, Copy)]
 struct Pairs {
