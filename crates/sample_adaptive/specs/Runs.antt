@@ -21,13 +21,12 @@ unfoldable pub words_from : CodeSettings → Statistics → List ℕ → List Bo
 words_from c s [] = []
 words_from c s (residual ∷ residuals) = code_word (code_with c s) residual ++ words_from c (next_statistics c.rescaling.size s residual) residuals
 
--- k is at most D - 2; a word whose quotient is below the fence is no escape, and has at most 16 bits
-pub record IsKeptCode (bits limit counter : ℕ) (kept : KeptCode) : Type 0 where
+-- k is at most D - 2, and what depends on it is stored beside it
+pub record IsKeptCode (bits counter : ℕ) (kept : KeptCode) : Type 0 where
   pub k : kept.k + 2 ≤ bits
   pub one : kept.one ≡ 2 ^ kept.k
   pub shortest : kept.shortest ≡ kept.k + 1
   pub first : kept.first ≡ 520 * kept.k + counter
-  pub fence : (kept.fence ≤ limit) × (kept.fence + kept.k ≤ 16)
 
 -- k is at most D - 2; a word without an escape that has at most `longest` bits needs none, and has at most 14 bits
 pub record IsKeptCodes (bits limit : ℕ) (kept : KeptCodes) : Type 0 where

@@ -58,21 +58,6 @@ pub(crate) fn word_of(code: Code, residual: u16) -> Word
     }
 }
 
-/// Returns two words as one.
-#[inline(always)]
-pub(crate) fn joined(first: Word, second: Word) -> Word
-    requires first { (first.bits < 2 ^ first.length) × (first.length ≤ 48) }
-    requires second { (second.bits < 2 ^ second.length) × (second.length ≤ 16) }
-    ensures length { result.length ≡ first.length + second.length }
-    ensures below { result.bits < 2 ^ result.length }
-    ensures bits { bits_of result.length result.bits ≡ bits_of first.length first.bits ++ bits_of second.length second.bits }
-{
-    Word {
-        bits: (first.bits << second.length) + second.bits,
-        length: first.length + second.length,
-    }
-}
-
 /// Reads the residual whose code word comes next, and returns it.
 ///
 /// Returns `BadCode` with the index if the bits are of a code word's form but no residual's, and `Truncated` if they end

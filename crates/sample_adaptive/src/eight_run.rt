@@ -234,7 +234,7 @@ fn put_apart(
     let settings = run.settings;
     let counter = run.state.statistics.counter;
     let state = PieceState {
-        kept: KeptCode::of(settings.bits, settings.limit, counter, k),
+        kept: KeptCode::of(settings.bits, counter, k),
         accumulator,
     };
     let after = put_each(writer, run, state, i, i + 8);

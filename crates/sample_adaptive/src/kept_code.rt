@@ -9,9 +9,6 @@ use crate::code_settings::CodeSettings;
 use crate::statistics::{Statistics, parameter};
 use crate::thresholds::ROW;
 
-/// The most bits of a code word that is joined with others.
-const MOST_BITS: u32 = 16;
-
 /// A code parameter, and what depends on it alone.
 #[derive(Clone, Copy)]
 pub(crate) struct KeptCode {
@@ -23,24 +20,21 @@ pub(crate) struct KeptCode {
     pub shortest: u32,
     /// Where the table has the threshold of k at the counter of a piece's first residual.
     pub first: usize,
-    /// A residual whose quotient is below it has a code word without an escape, of at most 16 bits.
-    pub fence: u32,
 }
 
 impl KeptCode {
     /// Returns the code parameter k, with what depends on it, for a piece that begins with this counter.
     #[inline(always)]
-    pub(crate) fn of(bits: u32, limit: u32, counter: u32, k: u32) -> KeptCode
+    pub(crate) fn of(bits: u32, counter: u32, k: u32) -> KeptCode
         requires { (k + 2 ≤ bits) × (bits ≤ 16) × (counter < 2 ^ 9) }
         ensures k { result.k ≡ k }
-        ensures kept { IsKeptCode bits limit counter result }
+        ensures kept { IsKeptCode bits counter result }
     {
         KeptCode {
             k,
             one: 1 << k,
             shortest: k + 1,
             first: ROW * k as usize + counter as usize,
-            fence: limit.min(MOST_BITS - k),
         }
     }
 
@@ -56,40 +50,34 @@ impl KeptCode {
         i: usize,
         accumulator: u32,
     ) -> KeptCode
-        requires kept { IsKeptCode settings.bits settings.limit counter self }
+        requires kept { IsKeptCode settings.bits counter self }
         requires table { AreThresholds settings.bits settings.rescaling.size thresholds.now }
         requires statistics { AreStatistics settings.rescaling.size (record { counter = counter + i; accumulator = accumulator }) }
         ensures k { result.k ≡ code_parameter settings.bits (record { counter = counter + i; accumulator = accumulator }) }
-        ensures kept { IsKeptCode settings.bits settings.limit counter result }
+        ensures kept { IsKeptCode settings.bits counter result }
     {
         let at = self.first + i;
         if thresholds[at] <= accumulator && accumulator < thresholds[at + ROW] {
             return self;
         }
-        KeptCode::anew(
-            settings.bits,
-            settings.limit,
-            counter,
-            i as u32,
-            accumulator,
-        )
+        KeptCode::anew(settings.bits, counter, i as u32, accumulator)
     }
 
     /// `settled`, from the statistics alone. Apart from the loops that keep a code parameter: they are shorter so, and nothing is
     /// passed in memory.
     #[cold]
     #[inline(never)]
-    fn anew(bits: u32, limit: u32, counter: u32, i: u32, accumulator: u32) -> KeptCode
+    fn anew(bits: u32, counter: u32, i: u32, accumulator: u32) -> KeptCode
         requires bits { (2 ≤ bits) × (bits ≤ 16) }
         requires counter { (1 ≤ counter + i) × (counter + i < 2 ^ 9) }
         requires accumulator { accumulator < 2 ^ 25 }
         ensures k { result.k ≡ code_parameter bits (record { counter = counter + i; accumulator = accumulator }) }
-        ensures kept { IsKeptCode bits limit counter result }
+        ensures kept { IsKeptCode bits counter result }
     {
         let s = Statistics {
             counter: counter + i,
             accumulator,
         };
-        KeptCode::of(bits, limit, counter, parameter(bits, s))
+        KeptCode::of(bits, counter, parameter(bits, s))
     }
 }

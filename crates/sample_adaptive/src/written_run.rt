@@ -3,7 +3,6 @@
 ghost use Rattle.std.specs.Prelude.{◌≡◌, ◌+◌, ◌-◌, ◌*◌, ◌^◌, ◌<◌, ◌≤◌, ◌++◌, List, Bool, length, take, max, IsOk, IfErr, OnOk, ℕ};
 ghost use Rattle.std.specs.List.{AllByRecursion, sum};
 ghost use Rattle.cube_core.specs.declared.fault.Fault.TheVariants.{WantOfMemory};
-ghost use Rattle.header_bits.specs.Bits.{bits_of};
 ghost use Rattle.sample_adaptive.specs.BandStates.{IsBandState};
 ghost use Rattle.sample_adaptive.specs.Runs.{IsKeptCode, IsKeptCodes, IsPiece, sum_after, words_from};
 ghost use Rattle.sample_adaptive.specs.Statistics.{AreStatistics, statistics_from};
@@ -13,7 +12,7 @@ ghost use Rattle.sample_adaptive.specs.Words.{IsCode, code_word};
 
 use crate::band_state::BandState;
 use crate::code_settings::CodeSettings;
-use crate::code_word::{Code, Word, joined, word_of};
+use crate::code_word::{Code, word_of};
 use crate::eight_run::{LaneState, put_eight};
 use crate::kept_code::KeptCode;
 use crate::kept_codes::KeptCodes;
@@ -113,7 +112,7 @@ fn put_piece(
         .codes
         .nearer(settings.bits, run.thresholds, first, state.accumulator);
     let single = PieceState {
-        kept: KeptCode::of(settings.bits, settings.limit, statistics.counter, k),
+        kept: KeptCode::of(settings.bits, statistics.counter, k),
         accumulator: state.accumulator,
     };
     let rest = put_each(writer, run, single, i, count);
@@ -164,12 +163,12 @@ pub(crate) fn put_each(
     requires piece { IsPiece run.settings run.state.statistics run.thresholds.now run.residuals.now }
     requires order { first ≤ last }
     requires within { last ≤ length run.residuals.now }
-    requires kept { IsKeptCode run.settings.bits run.settings.limit run.state.statistics.counter state.kept }
+    requires kept { IsKeptCode run.settings.bits run.state.statistics.counter state.kept }
     requires sum { state.accumulator ≡ sum_after run.state.statistics run.residuals.now first }
     requires room { 48 * (last - first) ≤ writer.room }
     ensures text { (old : List Bool) → writer.bits ≡ old ++ words_from run.entry.settings run.entry.state.statistics (take first run.entry.residuals.now)
         → result.0.bits ≡ old ++ words_from run.entry.settings run.entry.state.statistics (take last run.entry.residuals.now) }
-    ensures kept { IsKeptCode run.entry.settings.bits run.entry.settings.limit run.entry.state.statistics.counter result.1.kept }
+    ensures kept { IsKeptCode run.entry.settings.bits run.entry.state.statistics.counter result.1.kept }
     ensures sum { result.1.accumulator ≡ sum_after run.entry.state.statistics run.entry.residuals.now last }
     ensures room { writer.room ≤ result.0.room + 48 * (last - first) }
     ensures still { result.0.room ≤ writer.room }
@@ -189,44 +188,14 @@ pub(crate) fn put_each(
 fn put_one(writer: BitWriter, run: LaterRun, state: PieceState, i: usize) -> (BitWriter, PieceState)
     requires piece { IsPiece run.settings run.state.statistics run.thresholds.now run.residuals.now }
     requires within { i < length run.residuals.now }
-    requires kept { IsKeptCode run.settings.bits run.settings.limit run.state.statistics.counter state.kept }
+    requires kept { IsKeptCode run.settings.bits run.state.statistics.counter state.kept }
     requires sum { state.accumulator ≡ sum_after run.state.statistics run.residuals.now i }
     requires room { 48 ≤ writer.room }
     ensures text { (old : List Bool) → writer.bits ≡ old ++ words_from run.entry.settings run.entry.state.statistics (take i run.entry.residuals.now)
         → result.0.bits ≡ old ++ words_from run.entry.settings run.entry.state.statistics (take (i + 1) run.entry.residuals.now) }
-    ensures kept { IsKeptCode run.entry.settings.bits run.entry.settings.limit run.entry.state.statistics.counter result.1.kept }
+    ensures kept { IsKeptCode run.entry.settings.bits run.entry.state.statistics.counter result.1.kept }
     ensures sum { result.1.accumulator ≡ sum_after run.entry.state.statistics run.entry.residuals.now (i + 1) }
     ensures room { writer.room ≤ result.0.room + 48 }
-    ensures still { result.0.room ≤ writer.room }
-{
-    let none = Word { bits: 0, length: 0 };
-    let next = join_next(writer, run, state, i, none);
-    let mut writer = next.0;
-    writer.push_reserved(next.2.bits, next.2.length);
-    (writer, next.1)
-}
-
-/// Joins words with the code word of residual `i` of a piece. Returns the state after it, and the words that aren't appended.
-#[inline(always)]
-fn join_next(
-    writer: BitWriter,
-    run: LaterRun,
-    state: PieceState,
-    i: usize,
-    words: Word,
-) -> (BitWriter, PieceState, Word)
-    requires piece { IsPiece run.settings run.state.statistics run.thresholds.now run.residuals.now }
-    requires within { i < length run.residuals.now }
-    requires kept { IsKeptCode run.settings.bits run.settings.limit run.state.statistics.counter state.kept }
-    requires sum { state.accumulator ≡ sum_after run.state.statistics run.residuals.now i }
-    requires words { (words.bits < 2 ^ words.length) × (words.length ≤ 48) }
-    requires room { words.length + 48 ≤ writer.room }
-    ensures text { (old : List Bool) → writer.bits ++ bits_of words.length words.bits ≡ old ++ words_from run.entry.settings run.entry.state.statistics (take i run.entry.residuals.now)
-        → result.0.bits ++ bits_of result.2.length result.2.bits ≡ old ++ words_from run.entry.settings run.entry.state.statistics (take (i + 1) run.entry.residuals.now) }
-    ensures kept { IsKeptCode run.entry.settings.bits run.entry.settings.limit run.entry.state.statistics.counter result.1.kept }
-    ensures sum { result.1.accumulator ≡ sum_after run.entry.state.statistics run.entry.residuals.now (i + 1) }
-    ensures words { (result.2.bits < 2 ^ result.2.length) × (result.2.length ≤ words.length + 16) }
-    ensures room { writer.room + result.2.length ≤ result.0.room + words.length + 48 }
     ensures still { result.0.room ≤ writer.room }
 {
     let residual = run.residuals[i];
@@ -237,37 +206,33 @@ fn join_next(
         accumulator: state.accumulator + u32::from(residual),
     };
     let quotient = u32::from(residual) >> kept.k;
-    if quotient < kept.fence {
-        let word = Word {
-            bits: kept.one + (u64::from(residual) & (kept.one - 1)),
-            length: quotient + kept.shortest,
-        };
-        return (writer, after, joined(words, word));
+    if quotient < run.settings.limit {
+        let bits = kept.one + (u64::from(residual) & (kept.one - 1));
+        let mut writer = writer;
+        writer.push_reserved(bits, quotient + kept.shortest);
+        return (writer, after);
     }
     let code = Code {
         limit: run.settings.limit,
         k: kept.k,
         bits: run.settings.bits,
     };
-    let none = Word { bits: 0, length: 0 };
-    (put_long(writer, words, code, residual), after, none)
+    (put_long(writer, code, residual), after)
 }
 
-/// Appends words, and then the code word of a residual, which may be an escape. Apart from the loop that joins words, which is shorter so.
+/// Appends the code word of a residual, which may be an escape. Apart from the loop over residuals, which is shorter so.
 #[cold]
 #[inline(never)]
-pub(crate) fn put_long(writer: BitWriter, words: Word, code: Code, residual: u16) -> BitWriter
+fn put_long(writer: BitWriter, code: Code, residual: u16) -> BitWriter
     requires code { IsCode code }
     requires residual { residual < 2 ^ code.bits }
-    requires words { (words.bits < 2 ^ words.length) × (words.length ≤ 48) }
-    requires room { words.length + 48 ≤ writer.room }
-    ensures text { result.bits ≡ (writer.bits ++ bits_of words.length words.bits) ++ code_word code residual }
-    ensures room { writer.room ≤ result.room + words.length + 48 }
+    requires room { 48 ≤ writer.room }
+    ensures text { result.bits ≡ writer.bits ++ code_word code residual }
+    ensures room { writer.room ≤ result.room + 48 }
     ensures still { result.room ≤ writer.room }
 {
     let word = word_of(code, residual);
     let mut writer = writer;
-    writer.push_reserved(words.bits, words.length);
     writer.push_reserved(word.bits, word.length);
     writer
 }

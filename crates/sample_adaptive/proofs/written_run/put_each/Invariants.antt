@@ -9,7 +9,7 @@ use Rattle.sample_adaptive.proofs.written_run.put_each.Given as goal
 pub record Reached (run : LaterRun) (before now : Written) (state : PieceState) (first i : ℕ) : Type 0 where
   pub text : (old : List Bool) → before.bits ≡ old ++ words_from run.settings run.state.statistics (take first run.residuals.now)
       → now.bits ≡ old ++ words_from run.settings run.state.statistics (take i run.residuals.now)
-  pub kept : IsKeptCode run.settings.bits run.settings.limit run.state.statistics.counter state.kept
+  pub kept : IsKeptCode run.settings.bits run.state.statistics.counter state.kept
   pub sum : state.accumulator ≡ sum_after run.state.statistics run.residuals.now i
   pub room : before.room ≤ now.room + 48 * (i - first)
   pub still : now.room ≤ before.room
