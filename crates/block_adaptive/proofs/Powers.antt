@@ -76,6 +76,16 @@ near_falls sum len a b first least most le =
     let under : (len + 1) * p ≤ 2 * 2 ^ b * p = mul-le (len + 1) p (2 * 2 ^ b) p (omega arith) (omega arith) in
     omega arith
 
+-- a step further on the values are small for their number
+pub near_rises : (sum len a b first : ℕ) → sum < 2 * 2 ^ a → 2 ^ b ≤ len → a ≤ first + (b + 2) → sum ≤ len * 2 ^ (first + 3)
+near_rises sum len a b first most least le =
+    let p : ℕ = 2 ^ (first + 3) in
+    let size : b + (first + 3) ≡ suc (first + (b + 2)) = omega arith in
+    let whole : 2 * 2 ^ (first + (b + 2)) ≡ 2 ^ b * p = sym (pow-succ' 2 (first + (b + 2))) ∙ ap (λ (n : ℕ). 2 ^ n) (sym size) ∙ pow-add 2 b (first + 3) in
+    let up : 2 ^ a ≤ 2 ^ (first + (b + 2)) = pow-le-pow_right {n = 2} (lit< tt) {i = a} {j = first + (b + 2)} le in
+    let under : 2 ^ b * p ≤ len * p = mul-le (2 ^ b) p len p least (omega arith) in
+    omega arith
+
 pub later : (a b c t u : ℕ) → b < a → (a < c) ⊎ ((a ≡ c) × (t ≤ u)) → b < c
 later a b c t u lt h = grind arith
 

@@ -249,7 +249,9 @@ impl BlockWriter {
             count: self.count,
             block: self.start,
         };
-        let zeros = write_data_sets(writer, &self.set, &position, self.zeros, block, total)?;
+        // A copy stays in registers while bytes are stored.
+        let set = self.set;
+        let zeros = write_data_sets(writer, &set, &position, self.zeros, block, total)?;
         self.start += u64::from(self.zeros + 1 - zeros);
         self.zeros = zeros;
         self.held = 0;

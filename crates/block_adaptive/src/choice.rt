@@ -89,22 +89,23 @@ pub fn option_cost(set: &CodeSet, block: &[u16], choice: Choice) -> u64
 fn first_split(splits: u32, sum: u64, len: u64) -> u32
     requires splits { splits ≤ 14 }
     requires len { len ≤ 64 }
+    requires none { len ≡ 0 → sum ≡ 0 }
     ensures few { result ≤ splits }
     ensures most { result ≤ 14 }
     ensures within { 0 < splits → result < splits }
     ensures falls { 0 < result → len * 2 ^ (result + 1) < sum }
     ensures rises { result + 1 < splits → sum ≤ len * 2 ^ (result + 2) }
 {
-    // Starting this close leaves about the same number of steps for every block, which keeps the loop's branch predictable.
-    let mut first = if sum > 0 && len > 0 && splits > 0 {
-        sum.ilog2().saturating_sub(len.ilog2() + 2).min(splits - 1)
-    } else {
-        0
-    };
-    while first + 1 < splits && len << (first + 2) < sum {
-        first += 1;
+    if sum == 0 || splits == 0 {
+        return 0;
     }
-    first
+    // The logarithms leave one step at most.
+    let near = sum.ilog2().saturating_sub(len.ilog2() + 2).min(splits - 1);
+    if near + 1 < splits && len << (near + 2) < sum {
+        near + 1
+    } else {
+        near
+    }
 }
 
 /// Returns the sums of a block's quotients under k and the next two, in one pass.
@@ -213,14 +214,17 @@ fn choose_of_large(set: &CodeSet, block: &[u16], total: u32) -> (Choice, u64)
     let [mut quotients, mut next, last] = quotient_sums(first, block);
     let mut best = Choice::Uncoded;
     let mut least = option_cost(set, block, best);
-    for k in first..splits.min(first + 3) {
-        let cost = split_cost(width, k, quotients, len);
+    for i in 0..3 {
+        let k = first + i;
+        if k < splits {
+            let cost = split_cost(width, k, quotients, len);
+            if cost < least {
+                best = Choice::Split(k);
+                least = cost;
+            }
+        }
         quotients = next;
         next = last;
-        if cost < least {
-            best = Choice::Split(k);
-            least = cost;
-        }
     }
     (best, least)
 }

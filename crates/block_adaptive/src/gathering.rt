@@ -101,6 +101,21 @@ fn joined(word: u64, held: u32, bits: u64, n: u32) -> u64
     (word << n) | bits
 }
 
+/// Returns the `held` bits of a word followed by a fundamental sequence of `n` bits.
+///
+/// The zeros come first, so that a quotient is shifted by as it is.
+#[inline(always)]
+fn with_sequence(word: u64, held: u32, n: u32) -> u64
+    requires some { 1 ≤ n }
+    requires few { (n < 64) × (held + n ≤ 64) }
+    requires word { word < 2 ^ held }
+    ensures bits { bits_of (held + n) result ≡ bits_of held word ++ bits_of n 1 }
+    ensures below { result < 2 ^ (held + n) }
+{
+    let zeros = joined(word, held, 0, n - 1);
+    joined(zeros, held + (n - 1), 1, 1)
+}
+
 /// Returns the codes of a few values without their k lowest bits, together fewer than 64 bits, as one number.
 #[inline(always)]
 #[tactic(auto, using(crate::proofs::Emits::quotient_word_steps))]
@@ -114,7 +129,7 @@ pub(crate) fn quotient_word(k: u32, values: &[u16]) -> u64
     let mut held = 0;
     for value in values {
         let n = u32::from(*value >> k) + 1;
-        word = joined(word, held, 1, n);
+        word = with_sequence(word, held, n);
         held += n;
     }
     word

@@ -5,6 +5,7 @@ ghost use Rattle.std.specs.Prelude.{OnErr};
 ghost use Rattle.cube_core.specs.declared.fault.Fault.TheVariants.{WantOfMemory};
 ghost use Rattle.header_bits.specs.Bits.{bits_of, bits_of_bytes};
 
+use core::mem::replace_with;
 use cube_core::fault::Fault;
 use std::alloc::{AllocError, Global};
 use std::marker::Model;
@@ -71,8 +72,35 @@ impl BitWriter {
     ///
     /// Where there is less room, it grows to these bits, filled up to whole bytes, or to as many bits as are written
     /// if these are more, and no further; else it stays as it is. Returns `WantOfMemory` if the allocation fails, or if there would be more than 2^63 bits.
-    #[inline(never)]
+    #[inline]
     pub fn reserve(&mut self, bits: u64) -> Result<(), Fault>
+        ensures same { self.new.bits ≡ self.old.bits }
+        ensures kept { self.old.room ≤ self.new.room }
+        ensures room { OnOk result (bits ≤ self.new.room) }
+        ensures bounded { self.new.room ≤ max self.old.room (max (bits + 7) (length self.old.bits)) }
+        ensures still { bits ≤ self.old.room → self.new.room ≡ self.old.room }
+        ensures failed { OnErr result (self.new.room ≡ self.old.room) }
+        ensures within { bits ≤ self.old.room → IsOk result }
+        ensures refused { IfErr result (λ e. e ≡ WantOfMemory) }
+    {
+        if self.has_room(bits) {
+            return Ok(());
+        }
+        self.grow_by(bits)
+    }
+
+    /// Returns whether there is room for `bits` more bits.
+    #[inline(always)]
+    fn has_room(&self, bits: u64) -> bool
+        ensures { IsTrue result → bits ≤ self.now.room }
+    {
+        let free = self.bytes.capacity() - self.bytes.len();
+        bits <= MOST_BITS - self.bit_count() && (u64::from(self.held) + bits + 7) / 8 <= free as u64
+    }
+
+    /// `reserve`, apart from the loops that reserve room block by block or run by run.
+    #[inline(never)]
+    fn grow_by(&mut self, bits: u64) -> Result<(), Fault>
         ensures same { self.new.bits ≡ self.old.bits }
         ensures kept { self.old.room ≤ self.new.room }
         ensures room { OnOk result (bits ≤ self.new.room) }
@@ -235,11 +263,26 @@ fn append_word(bytes: &mut Vec<u8>, word: u64)
     ensures len { vec_len bytes.new ≡ vec_len bytes.old + 8 }
     ensures capacity { vec_capacity bytes.new ≡ vec_capacity bytes.old }
 {
-    // Byte by byte: a call that may grow the bytes would keep the writer out of registers.
+    replace_with(bytes, word, with_word);
+}
+
+/// Returns bytes with a word after them, for which there is room.
+///
+/// They are passed by value, so that their address and length stay in registers and all eight bytes are stored at once. A call that may
+/// grow them would keep a writer out of registers.
+#[inline(always)]
+fn with_word(bytes: Vec<u8>, word: u64) -> (Vec<u8>, ())
+    requires room { vec_len bytes + 8 ≤ vec_capacity bytes }
+    ensures bits { bits_of_bytes result.0.items ≡ bits_of_bytes bytes.items ++ bits_of 64 word }
+    ensures len { vec_len result.0 ≡ vec_len bytes + 8 }
+    ensures capacity { vec_capacity result.0 ≡ vec_capacity bytes }
+{
+    let mut bytes = bytes;
     let eight = word.to_be_bytes();
     for i in 0..eight.len() {
         bytes.push_reserved(eight[i]);
     }
+    (bytes, ())
 }
 
 /// Appends the `held` lowest bits of a part, which are whole bytes and for which there is room.

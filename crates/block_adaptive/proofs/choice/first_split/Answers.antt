@@ -1,17 +1,14 @@
-use Rattle.std.proofs.Common.{arith}
+use Rattle.std.proofs.Common.{◌≡◌, ◌≤◌, ◌+◌, ◌*◌, ◌^◌, arith}
+use Rattle.block_adaptive.proofs.Powers.{near_falls, near_rises}
 use Rattle.block_adaptive.proofs.choice.first_split.Goals as goal
-use Rattle.block_adaptive.proofs.choice.first_split.Goals.{then-sum-gt0+then-len-gt0+then-splits-gt0, else-sum-gt0}
-use Rattle.block_adaptive.proofs.Powers.{near_falls}
 
-pub loop-first-init : goal.loop-first-init
-loop-first-init c =
-    elim c.if-sum-gt0.branch [
-      | then-sum-gt0+then-len-gt0+then-splits-gt0 w ↦
-          rw w.first-is (record {
-            few = omega (arith, w.min-first.ensures);
-            within = λ some. omega (arith, w.min-first.ensures);
-            falls = λ some. near_falls _ _ _ _ _ w.ilog2.ensures.power_le w.ilog2-then-splits-gt0.ensures.next_power_gt
-                (omega (arith, w.min-first.ensures, w.saturating_sub.ensures));
-          })
-      | else-sum-gt0 w ↦ rw w.first-is (record { few = omega arith; within = λ some. omega arith; falls = λ some. absurd (omega arith) })
-    ]
+pub returns-then-len-near-clause-rises : goal.returns-then-len-near-clause-rises
+returns-then-len-near-clause-rises c = λ more.
+    let near : c.ilog2.result ≤ c.min-near.result + (c.ilog2-2.result + 2) = omega (arith, more, c.min-near.ensures, c.saturating_sub.ensures) in
+    let rises = near_rises c.args.sum c.args.len c.ilog2.result c.ilog2-2.result c.min-near.result c.ilog2.ensures.next_power_gt c.ilog2-2.ensures.power_le near in
+    let size : c.min-near.result + 3 ≡ c.min-near.result + 1 + 2 = omega arith in
+    rw size at rises
+
+pub returns-else-near-splits-clause-falls : goal.returns-else-near-splits-clause-falls
+returns-else-near-splits-clause-falls c = λ some.
+    near_falls _ _ _ _ _ c.ilog2.ensures.power_le c.ilog2-2.ensures.next_power_gt (omega (arith, c.min-near.ensures, c.saturating_sub.ensures))

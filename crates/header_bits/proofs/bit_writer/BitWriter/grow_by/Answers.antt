@@ -1,6 +1,6 @@
 use Rattle.std.proofs.Common.{arith, ap}
 use Rattle.header_bits.proofs.Pushes.{written_length}
-use Rattle.header_bits.proofs.bit_writer.BitWriter.reserve.Goals as goal
+use Rattle.header_bits.proofs.bit_writer.BitWriter.grow_by.Goals as goal
 
 pub returns-then-bits-bit_count-clause-within : goal.returns-then-bits-bit_count-clause-within
 returns-then-bits-bit_count-clause-within c =
