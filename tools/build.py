@@ -1,7 +1,9 @@
 #!/usr/bin/env python3
 """Proves and builds a program or a static library, after the libraries that it depends on, which are built in parallel.
 
-    tools/build.py CRATE
+    tools/build.py CRATE [--cpu CPU]
+
+CPU is the processor that the code is made for, as `x86-64-v3`; without it the toolchain's own choice, `x86-64-v2`.
 
 `rt` works on one crate of a folder at a time, since it locks the libraries that the crate depends on. Therefore each library is built in
 a folder of its own outside the repository, with copies of its sources and of the build results that it needs. `rt` recognises a
@@ -9,6 +11,7 @@ crate that is up to date, which takes a second. Lines on standard error report t
 to time which ones are still running.
 """
 
+import argparse
 import os
 import shutil
 import subprocess
@@ -119,15 +122,14 @@ class Build:
                 self.break_silence(running.values())
         return not self.failed
 
-    def build_top(self, crate, target):
+    def build_top(self, crate, target, cpu):
         """Builds a static library, for another target where one is named; or a program, by running it with its stored arguments and input."""
         self.begun[crate] = time.monotonic()
         self.say(f"        {crate} begins")
         folder = folder_of(crate)
-        words, given = ["rt", "run"], os.path.join(folder, "stdin")
-        if is_static_library(crate):
-            words = ["rt", "lib", *(["--target", target] if target else [])]
-        elif os.path.isfile(os.path.join(folder, "args")):
+        words, given = ["rt", "lib" if is_static_library(crate) else "run"], os.path.join(folder, "stdin")
+        words += [*(["--target", target] if target else []), *(["--cpu", cpu] if cpu else [])]
+        if os.path.isfile(os.path.join(folder, "args")):
             with open(os.path.join(folder, "args"), encoding="utf-8") as file:
                 words += ["--", *file.read().splitlines()]
         with open(given if os.path.isfile(given) else os.devnull, "rb") as stdin, tempfile.TemporaryFile("w+") as said:
@@ -191,18 +193,26 @@ class Build:
             file.writelines(own)
 
 
-def build_crate(crate, target=None):
-    """Proves and builds a crate and what it depends on, and returns whether all is well."""
+def build_crate(crate, target=None, cpu=None):
+    """Proves and builds a crate and what it depends on, for a target and a processor, and returns whether all is well."""
     if not shutil.which("rt"):
         sys.exit("the toolchain is needed to build this: its command rt isn't in the PATH (README names the versions)")
     start = time.monotonic()
     with tempfile.TemporaryDirectory(prefix="build-") as room:
         build = Build(crate, room)
-        is_well = build.build_libraries() and build.build_top(crate, target)
+        is_well = build.build_libraries() and build.build_top(crate, target, cpu)
     if is_well:
         print(f"{crate} is built: {(time.monotonic() - start) / 60:.1f} minutes in all", file=sys.stderr)
     return is_well
 
 
+def main():
+    parser = argparse.ArgumentParser(description="Proves and builds a program or a static library.")
+    parser.add_argument("crate")
+    parser.add_argument("--cpu", help="the processor that the code is made for, as x86-64-v3")
+    words = parser.parse_args()
+    return 0 if build_crate(words.crate, cpu=words.cpu) else 1
+
+
 if __name__ == "__main__":
-    sys.exit(0 if build_crate(sys.argv[1]) else 1)
+    sys.exit(main())

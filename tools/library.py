@@ -1,12 +1,13 @@
 #!/usr/bin/env python3
 """Builds the library for C: `libccsds123.a` and `libccsds123.so`, with the proved code and a heap of the C library's.
 
-    tools/library.py [TARGET]
+    tools/library.py [--cpu CPU] [TARGET]
 
-The crate `ccsds123` is proved and built first. Both libraries stand in `build/lib`, or in `build/TARGET` for another target than the
+The crate `ccsds123` is proved and built first, for the processor CPU where one is named, as `x86-64-v3`. Both libraries stand in `build/lib`, or in `build/TARGET` for another target than the
 machine's own, as `aarch64-unknown-linux-gnu`; this takes its cross compiler (`aarch64-linux-gnu-gcc`), or that which CC names.
 """
 
+import argparse
 import os
 import shutil
 import subprocess
@@ -74,8 +75,12 @@ def assemble(target):
 
 
 def main():
-    target = sys.argv[1] if len(sys.argv) > 1 and sys.argv[1] else NATIVE
-    if not build_crate(CRATE, target if target != NATIVE else None):
+    parser = argparse.ArgumentParser(description="Builds the library for C.")
+    parser.add_argument("--cpu", help="the processor that the code is made for, as x86-64-v3")
+    parser.add_argument("target", nargs="?", default=NATIVE)
+    words = parser.parse_args()
+    target = words.target
+    if not build_crate(CRATE, target if target != NATIVE else None, words.cpu):
         return 1
     assemble(target)
     print(f"the libraries stand in {os.path.relpath(room_of(target), TOP)}", file=sys.stderr)
