@@ -51,6 +51,12 @@ texts_more text i (suc n) =
     ap (λ (bits : List Bool). text i ++ bits) (texts_more text (suc i) n ∙ ap (λ j. texts text (suc i) n ++ text j) e)
     ∙ sym (append_assoc (text i) (texts text (suc i) n) (text (i + suc n)))
 
+-- one text more
+pub texts_after : (text : ℕ → List Bool) (n : ℕ) → texts text 0 (n + 1) ≡ texts text 0 n ++ text n
+texts_after text n =
+    let e : n + 1 ≡ suc n = omega arith in let f : 0 + n ≡ n = omega arith in
+    ap (texts text 0) e ∙ texts_more text 0 n ∙ ap (λ j. texts text 0 n ++ text j) f
+
 module _ (settings : CodeSettings) (at counter : ℕ) (accumulators residuals : List ℕ) (bands : List BandState) (text : ℕ → List Bool) (before : List Bool) where
   pub lanes_put : (n : ℕ) → n ≤ length residuals → at + n ≤ length bands
       → ((j : ℕ) → j < n → text j ≡ code_word (code_with settings (state_of bands (at + j)).statistics) (get_or residuals j 0))

@@ -25,6 +25,8 @@ pub(crate) struct CodedBands {
     /// Whether the words are the code words: none is an escape, and none has more than 14 bits.
     pub short: bool,
     pub words: EightWords,
+    /// The code parameters of the residuals.
+    pub parameters: [u32; 8],
     pub counter: u32,
     pub accumulators: [u32; 8],
 }
@@ -46,6 +48,8 @@ pub(crate) fn coded(
     ensures short { IsTrue result.short → AreShort result.words }
     ensures text { IsTrue result.alike → IsTrue result.short → (j : ℕ) → j < 8
         → word_text result.words j ≡ code_word (code_with settings (state_of bands.now (at + j)).statistics) (slice_index_or residuals.now (i + j) 0) }
+    ensures parameters { IsTrue result.alike → (j : ℕ) → j < 8 → number result.parameters j ≡ code_parameter settings.bits (state_of bands.now (at + j)).statistics }
+    ensures few { (j : ℕ) → j < 8 → number result.parameters j + 2 ≤ settings.bits }
     ensures statistics { IsTrue result.alike → (j : ℕ) → j < 8 → record { counter = result.counter; accumulator = number result.accumulators j }
         ≡ next_statistics settings.rescaling.size (state_of bands.now (at + j)).statistics (slice_index_or residuals.now (i + j) 0) }
 {
@@ -56,11 +60,13 @@ pub(crate) fn coded(
     let words = short_words(settings.limit, k, numbers);
     let halving = u32::from(counter == settings.rescaling.greatest);
     let after = summed(accumulators, numbers, halving).to_array();
+    let parameters = k.to_array();
     let alike = eight::are_all(u32x8::from_array(before.counters), counter);
     CodedBands {
         alike,
         short: words.fit,
         words: words.words,
+        parameters,
         counter: (counter + 1) >> halving,
         accumulators: after,
     }

@@ -16,7 +16,7 @@ use crate::column_lanes::{coded, store};
 use crate::eight_words::push_eight;
 use crate::stats::Stats;
 use crate::written_run::make_room;
-use crate::written_singly::put_each;
+use crate::written_singly::{put_each, put_long_words};
 use core::mem::replace;
 use cube_core::fault::Fault;
 use header_bits::bit_writer::BitWriter;
@@ -149,7 +149,7 @@ fn put_later(
     )
 }
 
-/// Appends the code words of eight residuals from band `at` on, in lanes if all of them are short and the bands have this counter.
+/// Appends the code words of eight residuals from band `at` on, in lanes if the bands have this counter. They are pushed at once if all are short.
 #[inline(always)]
 fn put_eight(
     writer: BitWriter,
@@ -176,9 +176,12 @@ fn put_eight(
     ensures room { writer.room ≤ result.room + 384 }
 {
     let coded = coded(settings, counter, bands, at, residuals, 0);
-    if coded.alike && coded.short {
+    if coded.alike {
         store(bands, at, coded.counter, &coded.accumulators);
-        return push_eight(writer, coded.words);
+        if coded.short {
+            return push_eight(writer, coded.words);
+        }
+        return put_long_words(writer, settings, coded.parameters, residuals);
     }
     put_each(writer, settings, thresholds, at, bands, residuals)
 }

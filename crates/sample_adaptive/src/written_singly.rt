@@ -1,7 +1,9 @@
-//! Columns of code words, written one by one.
+//! Code words of a column, written one by one.
 
-ghost use Rattle.std.specs.Prelude.{◌≡◌, ◌+◌, ◌*◌, ◌^◌, ◌<◌, ◌≤◌, ◌++◌, length, ℕ};
+ghost use Rattle.std.specs.Prelude.{◌≡◌, ◌+◌, ◌*◌, ◌^◌, ◌<◌, ◌≤◌, ◌++◌, length, slice_index_or, ℕ};
 ghost use Rattle.std.specs.List.{AllByRecursion};
+ghost use Rattle.lanes.specs.Lanes.{number};
+ghost use Rattle.sample_adaptive.specs.EightWords.{texts};
 ghost use Rattle.sample_adaptive.specs.Words.{code_word};
 ghost use Rattle.sample_adaptive.specs.Taken.{CoderState, HasSettings, WritesColumn, code_by, counted, of_band, with_band};
 ghost use Rattle.sample_adaptive.specs.BandStates.{IsBandState, AreBandStates, statistics_of};
@@ -80,5 +82,39 @@ fn put_one(
     let word = word_of(code, residual);
     let mut writer = writer;
     writer.push_reserved(word.bits, word.length);
+    writer
+}
+
+/// Appends the code words of eight residuals, whose code parameters are known and of which one at least is long.
+#[cold]
+#[inline(never)]
+pub(crate) fn put_long_words(
+    writer: BitWriter,
+    settings: CodeSettings,
+    parameters: [u32; 8],
+    residuals: &[u16],
+) -> BitWriter
+    requires few { (j : ℕ) → j < 8 → number parameters j + 2 ≤ settings.bits }
+    requires eight { length residuals.now ≡ 8 }
+    requires residuals { AllByRecursion (λ n. n < 2 ^ settings.bits) residuals.now }
+    requires room { 384 ≤ writer.room }
+    ensures text { result.bits ≡ writer.bits ++ texts (λ j. code_word (record {
+      limit = settings.limit;
+      k = number parameters j;
+      bits = settings.bits;
+    }) (slice_index_or residuals.now j 0)) 0 8 }
+    ensures room { writer.room ≤ result.room + 384 }
+    ensures still { result.room ≤ writer.room }
+{
+    let mut writer = writer;
+    for j in 0..8usize {
+        let code = Code {
+            limit: settings.limit,
+            k: parameters[j],
+            bits: settings.bits,
+        };
+        let word = word_of(code, residuals[j]);
+        writer.push_reserved(word.bits, word.length);
+    }
     writer
 }

@@ -5,7 +5,7 @@ use Rattle.sample_adaptive.specs.declared.statistics.Statistics.{Statistics}
 use Rattle.sample_adaptive.specs.BandStates.{state_of}
 use Rattle.sample_adaptive.specs.Statistics.{code_parameter}
 use Rattle.sample_adaptive.specs.Words.{code_word}
-use Rattle.sample_adaptive.proofs.Counting.{counter_range, accumulator_range}
+use Rattle.sample_adaptive.proofs.Counting.{accumulator_range}
 use Rattle.sample_adaptive.proofs.LaneStates.{next_lane}
 use Rattle.sample_adaptive.proofs.column_lanes.coded.Goals as goal
 
@@ -41,3 +41,8 @@ returns-clause-statistics c alike j lt =
     let sum : number c.summed-after.result j ≡ (s.accumulator + x + h) / 2 ^ h =
     c.summed-after.ensures j lt ∙ ap₂ (λ (p q : ℕ). (p + q + h) / 2 ^ h) (c.gathered-before.ensures.accumulators j lt) (c.taken-numbers.ensures j lt) in
     ap₂ (λ (p q : ℕ). record { counter = p; accumulator = q }) (ap (λ (p : ℕ). (p + 1) / 2 ^ h) counter) sum ∙ next_lane size s x h range halving
+
+pub returns-clause-parameters : goal.returns-clause-parameters
+returns-clause-parameters c alike j lt =
+    c.parameters-k.ensures.value j lt ∙ ap₂ (λ (p q : ℕ). code_parameter c.args.settings.bits (record { counter = p; accumulator = q }))
+    (sym (c.are_all-alike.ensures alike j lt) ∙ c.gathered-before.ensures.counters j lt) (c.gathered-before.ensures.accumulators j lt)

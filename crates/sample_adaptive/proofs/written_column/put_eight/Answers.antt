@@ -1,5 +1,6 @@
-use Rattle.std.proofs.Common.{ℕ, ◌≡◌, ◌+◌, get_or, sym, ap, subst, ◌∙◌, arith}
+use Rattle.std.proofs.Common.{ℕ, List, Bool, ◌≡◌, ◌+◌, get_or, sym, ap, subst, ◌∙◌, arith}
 use Rattle.std.proofs.lemmas.List.{take_all}
+use Rattle.lanes.specs.Lanes.{number}
 use Rattle.sample_adaptive.specs.BandStates.{state_of}
 use Rattle.sample_adaptive.specs.EightWords.{word_text}
 use Rattle.sample_adaptive.specs.Runs.{code_with}
@@ -31,6 +32,32 @@ returns-then-coded-2-clause-written c = λ v t some same has.
 
 pub returns-then-coded-2-clause-state : goal.returns-then-coded-2-clause-state
 returns-then-coded-2-clause-state c =
+    let settings = c.args.settings in
+    let r = c.coded-coded.result in
+    rw c.store.ensures (lane_states c.args.bands.now c.args.at r.counter r.accumulators settings 8 (omega (arith, c.requires.inside, c.requires.eight)) c.requires.state
+    (λ j lt. subst (AreStatistics settings.rescaling.size) (sym (c.coded-coded.ensures.statistics c.if-coded.true j lt))
+    (next_in_range settings.rescaling.size _ _ settings.rescaling.size_in.0 (c.requires.state (c.args.at + j) (omega (arith, c.requires.inside, c.requires.eight, lt))).statistics
+    (omega (arith, (c.type_inv.residuals (0 + j)).fits)))))
+
+pub returns-then-coded-clause-written : goal.returns-then-coded-clause-written
+returns-then-coded-clause-written c = λ v t some same has.
+    let residuals = c.args.residuals.now in
+    let settings = c.args.settings in
+    let bands = c.args.bands.now in
+    let at = c.args.at in
+    let r = c.coded-coded.result in
+    let text : ℕ → List Bool = λ j. code_word (record { limit = settings.limit; k = number r.parameters j; bits = settings.bits }) (get_or residuals j 0) in
+    let put = lanes_put settings at r.counter r.accumulators residuals bands text c.args.writer.bits 8 (omega (arith, c.requires.eight))
+    (omega (arith, c.requires.inside, c.requires.eight))
+    (λ j lt. ap (λ (k : ℕ). code_word (record { limit = settings.limit; k = k; bits = settings.bits }) (get_or residuals j 0))
+    (c.coded-coded.ensures.parameters c.if-coded.true j lt))
+    (λ j lt. c.coded-coded.ensures.statistics c.if-coded.true j lt
+    ∙ ap (λ k. next_statistics settings.rescaling.size (state_of bands (at + j)).statistics (get_or residuals k 0)) (first j)) in
+    rw (c.store.ensures, c.put_long_words.ensures.text)
+    (rw (take_all 8 residuals (omega (arith, c.requires.eight))) at (put v t some same has))
+
+pub returns-then-coded-clause-state : goal.returns-then-coded-clause-state
+returns-then-coded-clause-state c =
     let settings = c.args.settings in
     let r = c.coded-coded.result in
     rw c.store.ensures (lane_states c.args.bands.now c.args.at r.counter r.accumulators settings 8 (omega (arith, c.requires.inside, c.requires.eight)) c.requires.state
