@@ -8,6 +8,8 @@ pub mod Keys
 pub mod Lists
 pub mod Orders
 pub mod RawBytes
+pub mod PartBytes
+pub mod Parts
 pub mod Pieces
 pub mod Written
 pub mod Putting

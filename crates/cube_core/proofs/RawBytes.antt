@@ -1,30 +1,14 @@
 -- The raw bytes of samples that were taken in from bytes are those bytes.
-use Rattle.std.proofs.Common.{◌≡◌, ◌+◌, ◌*◌, ◌/◌, ◌%◌, ◌^◌, ◌<◌, ◌≤◌, ◌-◌, ℕ, suc, zero, pos, negsuc, ◌-ℤ◌, ℤ, Bool, true, false, leb, List, [], ◌∷◌, length, take}
-use Rattle.std.proofs.Common.{drop, replicate, get_or, refl, sym, ap, ◌∙◌, subst, arith, inl, inr, length-take, length-drop}
-use Rattle.std.proofs.lemmas.List.{take-append-drop, drop-drop, nil_from_length, get_or-take, get_or-drop, get_or_past, length-map, length-append}
+use Rattle.std.proofs.Common.{◌≡◌, ◌+◌, ◌*◌, ◌/◌, ◌%◌, ◌^◌, ◌<◌, ◌-◌, ℕ, suc, zero, pos, negsuc, ◌-ℤ◌, ℤ, Bool, true, false, leb, List, [], ◌∷◌, length}
+use Rattle.std.proofs.Common.{drop, replicate, get_or, refl, ap, ◌∙◌, arith, inl, inr, length-take}
+use Rattle.std.proofs.lemmas.List.{get_or-take, get_or-drop, get_or_past, length-map, length-append}
 use Rattle.std.proofs.lemmas.Bool.{cases_lt}
-use Rattle.cube_core.proofs.Words.{Bsq, Place, Layout, Sizes, AreSizes, sample_count, SampleKind, IsKind, sample_of, Image, IsCube, index_in, sample_at, ints}
+use Rattle.cube_core.proofs.Words.{Place, Layout, Sizes, AreSizes, sample_count, SampleKind, IsKind, sample_of, Image, IsCube, sample_at, ints}
 use Rattle.cube_core.proofs.Words.{samples_of, AreOffsets, places, IsLayout, order_of, raw_code, twos_complement, raw_value, bytes_at, sample_bytes, flat_map}
-use Rattle.cube_core.proofs.Words.{raw_bytes, AreOffsetsOf, if◌then◌else◌, ◌&&◌}
-use Rattle.cube_core.proofs.Walks.{sequential_index}
-use Rattle.cube_core.proofs.Bounds.{index_below}
-use Rattle.cube_core.proofs.Offsets.{sample_at_offset, sample_read, offset_is_sample}
-use Rattle.cube_core.proofs.Orders.{StandsAt, place_at_index, length-places}
-use Rattle.cube_core.proofs.Raws.{place_of, lawful_order, bytes_there}
-
--- a list is cut into pieces of one length, each of which is what f makes of an item
-pub pieces_whole : {A : Type 0} (f : A → List ℕ) (xs : List A) (w : ℕ) (bytes : List ℕ) → length bytes ≡ length xs * w
-    → ((i : ℕ) (d : A) → i < length xs → f (get_or xs i d) ≡ take w (drop (i * w) bytes)) → flat_map f xs ≡ bytes
-pieces_whole f [] w bytes long each = sym (nil_from_length bytes (long ∙ omega arith))
-pieces_whole f (x ∷ xs) w bytes long each =
-    let none : 0 * w ≡ 0 = omega arith in
-    let first : f x ≡ take w bytes = rw none at (each 0 x (omega arith)) in
-    let others : flat_map f xs ≡ drop w bytes =
-    pieces_whole f xs w (drop w bytes) (omega (arith, length-drop w bytes)) (λ i d lt. each (suc i) d (omega arith) ∙ ap (take w) (further i)) in
-    rw (first, others) (take-append-drop w bytes)
-  where
-    further : (i : ℕ) → drop (suc i * w) bytes ≡ drop (i * w) (drop w bytes)
-    further i = let e : suc i * w ≡ w + i * w = omega arith in rw e (sym (drop-drop (i * w) w bytes))
+use Rattle.cube_core.proofs.Words.{raw_bytes, if◌then◌else◌, ◌&&◌}
+use Rattle.cube_core.proofs.Offsets.{sample_read, offset_is_sample}
+use Rattle.cube_core.proofs.Orders.{length-places}
+use Rattle.cube_core.proofs.Raws.{lawful_order}
 
 -- ---- one sample
 
@@ -82,40 +66,6 @@ bytes_at_small l bytes i small j =
       | inr past ↦ rw (get_or_past (bytes_at l bytes i) j 0 (omega (arith, length-take l.bytes (drop (i * l.bytes) bytes)))) (omega arith)
     ]
 
--- the sample that stands at i is the one that its bytes spell
-pub sample_spelled : (s : Sizes) (k : SampleKind) (l : Layout) (bytes offsets : List ℕ) (p : Place) (i : ℕ) → length offsets ≡ sample_count s
-    → AreOffsetsOf s k l bytes offsets → StandsAt s (order_of l.order s) p i → sample_at (image s k offsets) p.z p.y p.x ≡ raw_value l k (bytes_at l bytes i)
-sample_spelled s k l bytes offsets p i full here stands =
-    let at : index_in s.columns s.rows p.z p.y p.x < length offsets =
-    rw full (index_below s.columns s.rows s.bands p.z p.y p.x stands.place.band stands.place.row stands.place.column) in
-    let read = sample_at_offset (image s k offsets) s k offsets p.z p.y p.x (index_in s.columns s.rows p.z p.y p.x) refl refl at in
-    read ∙ (here p stands.place).value ∙ ap (λ (n : ℕ). raw_value l k (bytes_at l bytes n)) stands.index
-
-each_sample : (s : Sizes) (k : SampleKind) (l : Layout) (bytes offsets : List ℕ) (i : ℕ) (d : Place) → IsLayout l → 0 < sample_count s
-    → length bytes ≡ sample_count s * l.bytes → AreBytes bytes → length offsets ≡ sample_count s → AreOffsetsOf s k l bytes offsets → i < sample_count s
-    → sample_bytes l (sample_at (image s k offsets) (get_or (places s (order_of l.order s)) i d).z (get_or (places s (order_of l.order s)) i d).y
-    (get_or (places s (order_of l.order s)) i d).x) ≡ bytes_at l bytes i
-each_sample s k l bytes offsets i d layout some long small full here lt =
-    let lawful = lawful_order l.order s some in
-    let there = place_of s (order_of l.order s) i lawful lt in
-    let p : Place = there.0 in
-    let item : get_or (places s (order_of l.order s)) i d ≡ p =
-    subst (λ (n : ℕ). get_or (places s (order_of l.order s)) n d ≡ p) there.1.index (place_at_index s (order_of l.order s) p d lawful there.1.place) in
-    let fits : i * l.bytes + l.bytes ≤ length bytes = rw long (bytes_there l i (sample_count s) layout lt) in
-    let whole : length (bytes_at l bytes i) ≡ l.bytes = omega (arith, length-take l.bytes (drop (i * l.bytes) bytes), length-drop (i * l.bytes) bytes) in
-    rw (item, sample_spelled s k l bytes offsets p i full here there.1)
-    (sample_bytes_again l k (bytes_at l bytes i) layout (bytes_at_small l bytes i small) whole)
-
-pub raw_bytes_again : (s : Sizes) (k : SampleKind) (l : Layout) (bytes offsets : List ℕ) → IsLayout l → 0 < sample_count s
-    → length bytes ≡ sample_count s * l.bytes → AreBytes bytes → length offsets ≡ sample_count s → AreOffsetsOf s k l bytes offsets
-    → raw_bytes (record { shape = s; kind = k; samples = samples_of k offsets }) l ≡ bytes
-unfolding raw_bytes
-raw_bytes_again s k l bytes offsets layout some long small full here =
-    pieces_whole (λ (p : Place). sample_bytes l (sample_at (image s k offsets) p.z p.y p.x)) (places s (order_of l.order s)) l.bytes bytes
-    (rw (length-places s (order_of l.order s) (lawful_order l.order s some)) long)
-    (λ i d lt. each_sample s k l bytes offsets i d layout some long small full here
-    (omega (arith, lt, length-places s (order_of l.order s) (lawful_order l.order s some))))
-
 -- ---- how many bytes there are
 
 length-sample_by : (little : Bool) (l : Layout) (v : ℤ) → l.little ≡ little → IsLayout l → length (sample_bytes l v) ≡ l.bytes
@@ -123,6 +73,9 @@ unfolding sample_bytes
 length-sample_by little l v f (inl e) = rw e refl
 length-sample_by true l v f (inr e) = rw (e, f) refl
 length-sample_by false l v f (inr e) = rw (e, f) refl
+
+pub length-sample_bytes : (l : Layout) (v : ℤ) → IsLayout l → length (sample_bytes l v) ≡ l.bytes
+length-sample_bytes l v layout = length-sample_by l.little l v refl layout
 
 length-pieces : {A : Type 0} (f : A → List ℕ) (xs : List A) (w : ℕ) → ((x : A) → length (f x) ≡ w) → length (flat_map f xs) ≡ length xs * w
 length-pieces f [] w each = omega arith
@@ -132,20 +85,10 @@ pub length-raw_bytes : (c : Image) (l : Layout) → IsLayout l → 0 < sample_co
 unfolding raw_bytes
 length-raw_bytes c l layout some =
     length-pieces (λ (p : Place). sample_bytes l (sample_at c p.z p.y p.x)) (places c.shape (order_of l.order c.shape)) l.bytes
-    (λ p. length-sample_by l.little l (sample_at c p.z p.y p.x) refl layout)
+    (λ p. length-sample_bytes l (sample_at c p.z p.y p.x) layout)
     ∙ ap (λ (n : ℕ). n * l.bytes) (length-places c.shape (order_of l.order c.shape) (lawful_order l.order c.shape some))
 
 -- ---- offsets
-
--- each offset is within the kind's bits
-pub are_offsets : (s : Sizes) (k : SampleKind) (l : Layout) (bytes offsets : List ℕ) → 0 < sample_count s → length offsets ≡ sample_count s
-    → AreOffsetsOf s k l bytes offsets → AreOffsets s k offsets
-are_offsets s k l bytes offsets some full here =
-    record {
-      whole = full;
-      range = λ i lt. let there = place_of s Bsq i tt (omega arith) in
-          subst (λ (n : ℕ). get_or offsets n 0 < 2 ^ k.bits) (sym (sequential_index s there.0) ∙ there.1.index) (here there.0 there.1.place).below;
-    }
 
 pub zeros_are_samples : (k : SampleKind) (n offset : ℕ) → sample_of k offset ≡ pos 0 → samples_of k (replicate n offset) ≡ replicate n (pos 0)
 unfolding samples_of

@@ -1,14 +1,14 @@
 -- Samples written out as raw bytes, one place after another.
-use Rattle.std.proofs.Common.{◌≡◌, ◌+◌, ◌*◌, ◌<◌, ℕ, pos, List, length, get_or, refl, sym, ap, ◌∙◌, subst, arith, inl, inr}
+use Rattle.std.proofs.Common.{◌≡◌, ◌+◌, ◌<◌, ℕ, pos, List, length, get_or, refl, sym, ap, ◌∙◌, subst, arith, inl, inr}
 use Rattle.std.proofs.lemmas.List.{get_or-map, length-map}
 use Rattle.std.proofs.lemmas.Bool.{cases_eq}
 use Rattle.cube_core.proofs.Words.{Place, Layout, Sizes, sample_count, SampleKind, samples_of, Image, index_in, sample_at, IsOrder, IsPlaceOf, places}
-use Rattle.cube_core.proofs.Words.{place_index, order_of, bytes_at, sample_bytes, raw_bytes, samples_in, HasBytesAt, HaveBytes, sample_by, AreWritten}
+use Rattle.cube_core.proofs.Words.{place_index, order_of, samples_in, HasBytesAt, HaveBytes, sample_by}
 use Rattle.cube_core.proofs.Words.{CanBeWritten, HasBytes, sample_of, Bsq}
 use Rattle.cube_core.proofs.Orders.{StandsAt, place_at_index, place_index_below, length-places}
 use Rattle.cube_core.proofs.Bounds.{index_below}
 use Rattle.cube_core.proofs.Offsets.{sample_at_offset}
-use Rattle.cube_core.proofs.RawBytes.{image, pieces_whole}
+use Rattle.cube_core.proofs.RawBytes.{image}
 use Rattle.cube_core.proofs.Raws.{place_of, lawful_order}
 use Rattle.cube_core.proofs.Walks.{sequential_index}
 
@@ -31,32 +31,10 @@ pub bytes_more : (c : Image) (l : Layout) (i : ℕ) → HasBytesAt c l i → Hav
 bytes_more c l i here before j lt = elim (cases_eq j i) [ inl e ↦ subst (λ (n : ℕ). HasBytesAt c l n) (sym e) here | inr other ↦ before j (omega arith) ]
 
 -- the sample at a place is that of its offset
-sample_of_place : (s : Sizes) (k : SampleKind) (offsets : List ℕ) (p : Place) → length offsets ≡ sample_count s → IsPlaceOf s p
+pub sample_of_place : (s : Sizes) (k : SampleKind) (offsets : List ℕ) (p : Place) → length offsets ≡ sample_count s → IsPlaceOf s p
     → sample_at (image s k offsets) p.z p.y p.x ≡ sample_by s k offsets p
 sample_of_place s k offsets p full place = sample_at_offset (image s k offsets) s k offsets p.z p.y p.x (index_in s.columns s.rows p.z p.y p.x) refl refl
     (rw full (index_below s.columns s.rows s.bands p.z p.y p.x place.band place.row place.column))
-
-each_written : (s : Sizes) (k : SampleKind) (l : Layout) (offsets bytes : List ℕ) (i : ℕ) (d : Place) → 0 < sample_count s → length offsets ≡ sample_count s
-    → AreWritten s k l offsets bytes → i < sample_count s
-    → sample_bytes l (sample_at (image s k offsets) (get_or (places s (order_of l.order s)) i d).z (get_or (places s (order_of l.order s)) i d).y
-    (get_or (places s (order_of l.order s)) i d).x) ≡ bytes_at l bytes i
-each_written s k l offsets bytes i d some full here lt =
-    let lawful = lawful_order l.order s some in
-    let there = place_of s (order_of l.order s) i lawful lt in
-    let p : Place = there.0 in
-    let item : get_or (places s (order_of l.order s)) i d ≡ p =
-    subst (λ (n : ℕ). get_or (places s (order_of l.order s)) n d ≡ p) there.1.index (place_at_index s (order_of l.order s) p d lawful there.1.place) in
-    rw (item, sample_of_place s k offsets p full there.1.place) (sym (rw there.1.index at (here p there.1.place).there))
-
--- bytes in which all samples are written are the raw bytes
-pub raw_bytes_written : (c : Image) (s : Sizes) (k : SampleKind) (l : Layout) (offsets bytes : List ℕ)
-    → record { shape = s; kind = k; samples = samples_of k offsets } ≡ c → 0 < sample_count s → length bytes ≡ sample_count s * l.bytes
-    → length offsets ≡ sample_count s → AreWritten s k l offsets bytes → bytes ≡ raw_bytes c l
-unfolding raw_bytes
-raw_bytes_written c s k l offsets bytes e some long full here =
-    rw (← e) (sym (pieces_whole (λ (p : Place). sample_bytes l (sample_at (image s k offsets) p.z p.y p.x)) (places s (order_of l.order s)) l.bytes bytes
-    (rw (length-places s (order_of l.order s) (lawful_order l.order s some)) long)
-    (λ i d lt. each_written s k l offsets bytes i d some full here (omega (arith, lt, length-places s (order_of l.order s) (lawful_order l.order s some))))))
 
 -- samples that can be written have their bytes
 pub have_bytes : (c : Image) (s : Sizes) (k : SampleKind) (l : Layout) (offsets : List ℕ)
@@ -69,11 +47,6 @@ have_bytes c s k l offsets e some full can = rw (← e) each
         let lawful = lawful_order l.order s some in
         let there = place_of s (order_of l.order s) j lawful lt in
         rw (sample_there (image s k offsets) l there.0 j lawful lt there.1, sample_of_place s k offsets there.0 full there.1.place) (can there.0 there.1.place)
-
-pub have_bytes_written : (c : Image) (s : Sizes) (k : SampleKind) (l : Layout) (offsets bytes : List ℕ)
-    → record { shape = s; kind = k; samples = samples_of k offsets } ≡ c → 0 < sample_count s → length offsets ≡ sample_count s → AreWritten s k l offsets bytes
-    → HaveBytes c l (sample_count c.shape)
-have_bytes_written c s k l offsets bytes e some full here = have_bytes c s k l offsets e some full (λ p place. (here p place).fits)
 
 -- samples that have their bytes can be written
 pub can_be_written : (c : Image) (s : Sizes) (k : SampleKind) (l : Layout) (offsets : List ℕ)

@@ -8,6 +8,7 @@ pub mod Kind
 pub mod Laws
 pub mod Layout
 pub mod Order
+pub mod Parts
 pub mod Pieces
 pub mod Raw
 pub mod Examples

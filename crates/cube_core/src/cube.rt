@@ -1,21 +1,23 @@
 //! A cube of samples, kept in two bytes each.
 
-ghost use Rattle.std.specs.Prelude.{◌≡◌, ◌≢◌, ◌↔◌, ◌+◌, ◌*◌, ◌^◌, ◌<◌, ◌≤◌, ◌≤ℤ◌, ℕ, None, length, slice_index, replicate, pos, negsuc, IfOk, IfErr, IfSome};
+ghost use Rattle.std.specs.Prelude.{◌≡◌, ◌≢◌, ◌↔◌, ◌+◌, ◌*◌, ◌^◌, ◌<◌, ◌≤◌, ◌≤ℤ◌, ◌++◌, ℕ, None, length, take, drop, slice_index, replicate, pos, negsuc, IfOk, IfErr, IfSome};
 ghost use Rattle.cube_core.specs.Shape.{sample_count};
 ghost use Rattle.cube_core.specs.Image.{IsCube, IsPlace, sample_at, put};
-ghost use Rattle.cube_core.specs.Layout.{IsLayout, raw_bytes, HaveBytes, IsFirstUnfit};
+ghost use Rattle.cube_core.specs.Layout.{IsLayout, raw_bytes, HaveBytes, IsFirstBad, IsFirstUnfit};
 ghost use Rattle.cube_core.specs.Raw.{IsRawFault, IsUnfit};
-ghost use Rattle.cube_core.specs.declared.fault.Fault.TheVariants.{RawLength, WantOfMemory};
+ghost use Rattle.cube_core.specs.declared.fault.Fault.TheVariants.{RawLength, SampleRange, WantOfMemory};
 ghost use Rattle.cube_core.specs.Kind.{IsSample};
 ghost use Rattle.cube_core.specs.Offsets.{AreRowOffsets};
+ghost use Rattle.cube_core.specs.Parts.{IsPart, first_sample, part_samples};
 ghost use Rattle.cube_core.specs.Runs.{IsRunSet};
 
 use crate::cursor::Places;
 use crate::fault::Fault;
 use crate::kind::Kind;
 use crate::layout::Layout;
-use crate::raw_read::read_raw;
-use crate::raw_write::{can_be_written, write_raw};
+use crate::part::Part;
+use crate::raw_read::{first_bad, read_part};
+use crate::raw_write::{can_be_written, write_part};
 use crate::shape::{Shape, index_at};
 use std::alloc::Global;
 use std::marker::Model;
@@ -77,20 +79,50 @@ impl Cube {
             ↔ (length bytes.now ≢ sample_count shape * layout.bytes) }
         ensures refused { IfErr result (IsRawFault shape kind layout bytes.now) }
     {
-        // The kind's range is a part of what a cube is.
-        let _bits = kind.bits();
         let wanted = layout.length(shape);
         let had = bytes.len() as u64;
         if had != wanted {
             return Err(Fault::RawLength { wanted, had });
         }
-        let mut offsets = vec![in alloc; 0u16; shape.sample_count() as usize]?;
-        read_raw(shape, kind, layout, bytes, &mut offsets)?;
-        Ok(Cube {
+        let cube = Cube::new(alloc, shape, kind)?;
+        cube.read_part(layout, layout.all(shape), bytes)
+    }
+
+    /// Returns the cube whose samples of a part are those that raw bytes hold in this layout. The samples before it are the same.
+    ///
+    /// Returns `SampleRange` with the index, in the layout's order, of the first sample of the part out of the kind's range.
+    pub fn read_part(self, layout: Layout, part: Part, bytes: &[u8]) -> Result<Cube, Fault>
+        requires layout { IsLayout layout }
+        requires part { IsPart layout self.shape part }
+        requires whole { length bytes.now ≡ part_samples layout self.shape part * layout.bytes }
+        ensures whole { IfOk result IsCube }
+        ensures same { IfOk result (λ c. (c.shape ≡ self.shape) × (c.kind ≡ self.kind)) }
+        ensures read { IfOk result (λ c. take ((first_sample layout self.shape part + part_samples layout self.shape part) * layout.bytes) (raw_bytes c layout)
+            ≡ take (first_sample layout self.shape part * layout.bytes) (raw_bytes self layout) ++ bytes.now) }
+        ensures fits { IfOk result (λ c. HaveBytes self layout (first_sample layout self.shape part)
+            → HaveBytes c layout (first_sample layout self.shape part + part_samples layout self.shape part)) }
+        ensures refused { IfErr result (λ e. (i : ℕ) × (e ≡ SampleRange (first_sample layout self.shape part + i)) × IsFirstBad self.kind layout bytes.now i) }
+    {
+        let Cube {
             shape,
             kind,
-            offsets,
-        })
+            mut offsets,
+        } = self;
+        // Sizes and the kind's range are a part of what a cube is.
+        let _count = shape.sample_count();
+        let _bits = kind.bits();
+        if read_part(shape, kind, layout, part, bytes, &mut offsets) {
+            Ok(Cube {
+                shape,
+                kind,
+                offsets,
+            })
+        } else {
+            let unit = layout.unit(shape);
+            Err(Fault::SampleRange {
+                index: part.first * unit + first_bad(kind, layout, bytes, part.count * unit),
+            })
+        }
     }
 
     /// Returns the samples as raw bytes in this layout.
@@ -108,7 +140,8 @@ impl Cube {
         // At most 2^48 samples, so no length overflows.
         let _count = shape.sample_count();
         let mut bytes = vec![in alloc; 0u8; layout.length(shape) as usize]?;
-        if write_raw(shape, self.kind, layout, &self.offsets, &mut bytes) {
+        let all = layout.all(shape);
+        if write_part(shape, self.kind, layout, all, &self.offsets, &mut bytes) {
             Ok(bytes)
         } else {
             Err(Fault::SampleRange {
@@ -124,10 +157,22 @@ impl Cube {
         requires room { length bytes.old ≡ sample_count self.now.shape * layout.bytes }
         ensures { bytes.new ≡ raw_bytes self.now layout }
     {
+        self.write_part(layout, layout.all(self.shape), bytes);
+    }
+
+    /// Writes the samples of a part as raw bytes in this layout over as many bytes. Each sample of the cube has to fit in its own.
+    pub fn write_part(&self, layout: Layout, part: Part, bytes: &mut [u8])
+        requires layout { IsLayout layout }
+        requires fits { HaveBytes self.now layout (sample_count self.now.shape) }
+        requires part { IsPart layout self.now.shape part }
+        requires room { length bytes.old ≡ part_samples layout self.now.shape part * layout.bytes }
+        ensures { bytes.new ≡ take (part_samples layout self.now.shape part * layout.bytes)
+            (drop (first_sample layout self.now.shape part * layout.bytes) (raw_bytes self.now layout)) }
+    {
         let shape = self.shape();
         let _count = shape.sample_count();
         // Each sample fits, so this is true.
-        let _all = write_raw(shape, self.kind, layout, &self.offsets, bytes);
+        let _all = write_part(shape, self.kind, layout, part, &self.offsets, bytes);
     }
 
     /// Returns the index, in the layout's order, of the first sample that doesn't fit in its bytes, or `None` if each does.

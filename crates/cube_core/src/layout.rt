@@ -1,11 +1,13 @@
 //! How the samples of a cube lie in raw bytes.
 
 ghost use Rattle.std.specs.Prelude.{◌≡◌, ◌⊎◌, ◌*◌, ◌≤◌, ◌<◌, ◌^◌, ◌-◌, ◌≤ℤ◌, ◌-ℤ◌, neg_ℤ, ◌++◌, length, pos, negsuc, OnOk, IfErr};
-ghost use Rattle.cube_core.specs.Shape.{sample_count};
+ghost use Rattle.cube_core.specs.Parts.{IsPart, first_sample, part_samples, unit_of, unit_count};
+ghost use Rattle.cube_core.specs.Shape.{InRange, sample_count};
 ghost use Rattle.cube_core.specs.Layout.{IsLayout, raw_value, raw_code, twos_complement, order_of, sample_bytes, HasBytes};
 
 use crate::kind::Kind;
 use crate::order::Order;
+use crate::part::Part;
 use crate::shape::Shape;
 use byteorder::{BigEndian, ByteOrder, LittleEndian};
 
@@ -52,6 +54,45 @@ impl Layout {
         ensures { result ≡ sample_count shape * self.bytes }
     {
         shape.sample_count() * u64::from(self.bytes)
+    }
+
+    /// Returns how many samples a unit of raw samples has: one, a row of one band, or those of all bands at one row and column.
+    pub fn unit(self, shape: Shape) -> u64
+        ensures value { result ≡ unit_of self.order shape }
+        ensures range { InRange 1 65536 result }
+    {
+        match self.order {
+            RawOrder::Bsq => 1,
+            RawOrder::Bil => u64::from(shape.columns()),
+            RawOrder::Bip => u64::from(shape.bands()),
+        }
+    }
+
+    /// Returns how many units the raw samples of a cube are.
+    pub fn units(self, shape: Shape) -> u64
+        ensures value { result ≡ unit_count self.order shape }
+        ensures samples { result * unit_of self.order shape ≡ sample_count shape }
+        ensures range { InRange 1 (2 ^ 48) result }
+    {
+        let count = shape.sample_count();
+        match self.order {
+            RawOrder::Bsq => count,
+            RawOrder::Bil => u64::from(shape.rows()) * u64::from(shape.bands()),
+            RawOrder::Bip => u64::from(shape.rows()) * u64::from(shape.columns()),
+        }
+    }
+
+    /// Returns the part that all raw samples of a cube are.
+    pub fn all(self, shape: Shape) -> Part
+        ensures part { IsPart self shape result }
+        ensures first { first_sample self shape result ≡ 0 }
+        ensures samples { part_samples self shape result ≡ sample_count shape }
+        ensures range { InRange 1 (2 ^ 48) (sample_count shape) }
+    {
+        Part {
+            first: 0,
+            count: self.units(shape),
+        }
     }
 
     /// Returns the sample in the first bytes.

@@ -8,6 +8,7 @@ pub mod kind;
 pub mod laws;
 pub mod layout;
 pub mod order;
+pub mod part;
 mod piece;
 mod raw_read;
 mod raw_write;

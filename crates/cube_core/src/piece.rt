@@ -1,71 +1,17 @@
 //! Pieces of a row of samples, which lie evenly spaced in raw bytes, read and written.
 
 ghost use Rattle.std.specs.Prelude.{ℕ, ℤ, ◌≡◌, ◌≢◌, ◌⊎◌, ◌↔◌, ◌*◌, ◌+◌, ◌<◌, ◌≤◌, ◌^◌, IsTrue, length, slice_index};
-ghost use Rattle.cube_core.specs.Image.{IsPlace, index_in};
 ghost use Rattle.cube_core.specs.Kind.{sample_of};
-ghost use Rattle.cube_core.specs.Layout.{IsLayout, HasBytes, order_of, raw_number, raw_code, bytes_at, sample_bytes};
-ghost use Rattle.cube_core.specs.Pieces.{LieEvenly};
-ghost use Rattle.cube_core.specs.Shape.{sample_count};
+ghost use Rattle.cube_core.specs.Layout.{IsLayout, HasBytes, raw_number, raw_code, bytes_at, sample_bytes};
 ghost use Rattle.cube_core.specs.Scale.{StandsFor, SpellOffset};
 
-use crate::layout::{Layout, RawOrder};
+use crate::layout::Layout;
+use crate::part::Piece;
 use crate::scale::Scale;
-use crate::shape::{Shape, index_among, index_at};
 use byteorder::{BigEndian, ByteOrder, LittleEndian};
 
-/// How many columns of all bands are processed at once under interleaving by pixel, so that their bytes stay in
-/// the cache.
-pub(crate) const BLOCK: u32 = 32;
-
-/// Samples that follow one another in the cube: some of a row, or all of them if the layout is band sequential.
-#[derive(Clone, Copy)]
-pub(crate) struct Piece {
-    /// The index of the first one in the cube.
-    pub(crate) at: usize,
-    pub(crate) count: usize,
-    /// The index of the first one in the layout's order, and the distance from there to the next.
-    pub(crate) first: usize,
-    pub(crate) step: usize,
-}
-
-impl Piece {
-    /// `count` samples of a row of the cube, from a place on.
-    pub(crate) fn new(shape: Shape, order: RawOrder, z: u32, y: u32, x: u32, count: u32) -> Piece
-        requires place { IsPlace shape z y x }
-        requires within { x + count ≤ shape.columns }
-        ensures at { result.at ≡ index_in shape.columns shape.rows z y x }
-        ensures count { result.count ≡ count }
-        ensures room { result.at + result.count ≤ sample_count shape }
-        ensures items { LieEvenly shape (order_of order shape) z y x count result.first result.step }
-        ensures apart { 1 ≤ result.step }
-    {
-        let columns = shape.columns();
-        let bands = shape.bands();
-        let _rows = shape.rows();
-        let at = index_at(shape, z, y, x);
-        let count = count as usize;
-        match order {
-            RawOrder::Bsq => Piece {
-                at,
-                count,
-                first: at,
-                step: 1,
-            },
-            RawOrder::Bil => Piece {
-                at,
-                count,
-                first: index_among(bands, columns, y, z, x),
-                step: 1,
-            },
-            RawOrder::Bip => Piece {
-                at,
-                count,
-                first: index_among(columns, bands, y, x, z),
-                step: bands as usize,
-            },
-        }
-    }
-}
+/// How many pixels are processed at once under interleaving by pixel, so that their bytes stay in the cache.
+pub(crate) const BLOCK: u64 = 32;
 
 /// Reads the samples of a piece, writes their offsets, and returns whether all of them are of the kind.
 pub(crate) fn read_piece(

@@ -1,37 +1,41 @@
 //! Samples written as raw bytes.
 
 ghost use Rattle.std.specs.Prelude.{ℕ, ◌≡◌, ◌↔◌, ◌*◌, ◌<◌, ◌≤◌, ◌^◌, IsTrue, length, slice_index};
-ghost use Rattle.cube_core.specs.declared.layout.RawOrder.TheVariants.{Bsq};
+ghost use Rattle.cube_core.specs.declared.layout.RawOrder.TheVariants.{Bsq, Bil, Bip};
 ghost use Rattle.cube_core.specs.Kind.{sample_of};
 ghost use Rattle.cube_core.specs.Shape.{sample_count};
 ghost use Rattle.cube_core.specs.Offsets.{AreOffsets};
 ghost use Rattle.cube_core.specs.Layout.{IsLayout, HasBytes};
-ghost use Rattle.cube_core.specs.Pieces.{AreWritten, CanBeWritten};
+ghost use Rattle.cube_core.specs.Pieces.{CanBeWritten};
+ghost use Rattle.cube_core.specs.Parts.{IsPart, AreWrittenTo, first_sample, part_samples};
 
 use crate::kind::Kind;
 use crate::layout::{Layout, RawOrder};
-use crate::piece::{BLOCK, Piece, write_piece};
+use crate::part::{Part, Piece};
+use crate::piece::{BLOCK, write_piece};
 use crate::scale::Scale;
 use crate::shape::Shape;
 
-/// Writes the bytes of all samples and returns true, or returns false if one doesn't fit in its bytes; some are then not written.
-pub(crate) fn write_raw(
+/// Writes the bytes of all samples of a part and returns true, or returns false if one doesn't fit in its bytes; some are then not written.
+pub(crate) fn write_part(
     shape: Shape,
     kind: Kind,
     layout: Layout,
+    part: Part,
     offsets: &[u16],
     bytes: &mut [u8],
 ) -> bool
     requires layout { IsLayout layout }
+    requires part { IsPart layout shape part }
     requires offsets { AreOffsets shape kind offsets.now }
-    requires whole { length bytes.old ≡ sample_count shape * layout.bytes }
-    ensures written { IsTrue result → AreWritten shape kind layout offsets.now bytes.new }
+    requires whole { length bytes.old ≡ part_samples layout shape part * layout.bytes }
+    ensures written { IsTrue result → AreWrittenTo shape kind layout (first_sample layout shape part) (part_samples layout shape part) offsets.now bytes.new }
     ensures good { CanBeWritten shape kind layout offsets.now → IsTrue result }
 {
     match layout.order {
-        RawOrder::Bsq => write_bands(shape, kind, layout, offsets, bytes),
-        RawOrder::Bil => write_lines(shape, kind, layout, shape.columns(), offsets, bytes),
-        RawOrder::Bip => write_lines(shape, kind, layout, BLOCK, offsets, bytes),
+        RawOrder::Bsq => write_sequence(shape, kind, layout, part, offsets, bytes),
+        RawOrder::Bil => write_lines(shape, kind, layout, part, offsets, bytes),
+        RawOrder::Bip => write_pixels(shape, kind, layout, part, offsets, bytes),
     }
 }
 
@@ -54,61 +58,98 @@ pub(crate) fn can_be_written(kind: Kind, layout: Layout, offsets: &[u16]) -> boo
     true
 }
 
-/// `write_raw` in band sequential order, in which the samples of a cube follow one another.
-fn write_bands(shape: Shape, kind: Kind, layout: Layout, offsets: &[u16], bytes: &mut [u8]) -> bool
+/// `write_part` in band sequential order, in which the samples of a cube follow one another.
+fn write_sequence(
+    shape: Shape,
+    kind: Kind,
+    layout: Layout,
+    part: Part,
+    offsets: &[u16],
+    bytes: &mut [u8],
+) -> bool
     requires layout { IsLayout layout }
     requires order { layout.order ≡ Bsq }
+    requires part { IsPart layout shape part }
     requires offsets { AreOffsets shape kind offsets.now }
-    requires whole { length bytes.old ≡ sample_count shape * layout.bytes }
-    ensures written { IsTrue result → AreWritten shape kind layout offsets.now bytes.new }
+    requires whole { length bytes.old ≡ part_samples layout shape part * layout.bytes }
+    ensures written { IsTrue result → AreWrittenTo shape kind layout (first_sample layout shape part) (part_samples layout shape part) offsets.now bytes.new }
     ensures good { CanBeWritten shape kind layout offsets.now → IsTrue result }
 {
-    let whole = Piece {
-        at: 0,
-        count: shape.sample_count() as usize,
-        first: 0,
-        step: 1,
-    };
+    let _count = shape.sample_count();
+    let piece = Piece::sequential(shape, part);
     write_piece(
         layout,
         &Scale::new(kind, layout.bytes),
-        whole,
+        piece,
         offsets,
         bytes,
     )
 }
 
-/// `write_raw` row after row, a block of columns of all bands at a time.
+/// `write_part` under interleaving by line, a row of one band at a time.
 fn write_lines(
     shape: Shape,
     kind: Kind,
     layout: Layout,
-    block: u32,
+    part: Part,
     offsets: &[u16],
     bytes: &mut [u8],
 ) -> bool
     requires layout { IsLayout layout }
-    requires block { 1 ≤ block }
+    requires order { layout.order ≡ Bil }
+    requires part { IsPart layout shape part }
     requires offsets { AreOffsets shape kind offsets.now }
-    requires whole { length bytes.old ≡ sample_count shape * layout.bytes }
-    ensures written { IsTrue result → AreWritten shape kind layout offsets.now bytes.new }
+    requires whole { length bytes.old ≡ part_samples layout shape part * layout.bytes }
+    ensures written { IsTrue result → AreWrittenTo shape kind layout (first_sample layout shape part) (part_samples layout shape part) offsets.now bytes.new }
     ensures good { CanBeWritten shape kind layout offsets.now → IsTrue result }
 {
     let _count = shape.sample_count();
     let scale = Scale::new(kind, layout.bytes);
-    let columns = shape.columns();
-    for y in 0..shape.rows() {
-        let mut x = 0;
-        while x < columns {
-            let count = block.min(columns - x);
-            for z in 0..shape.bands() {
-                let piece = Piece::new(shape, layout.order, z, y, x, count);
-                if !write_piece(layout, &scale, piece, offsets, bytes) {
-                    return false;
-                }
-            }
-            x += count;
+    let bands = shape.bands();
+    let (mut y, mut z) = part.line(shape);
+    for line in 0..part.count {
+        let piece = Piece::line(shape, part, z, y, line);
+        if !write_piece(layout, &scale, piece, offsets, bytes) {
+            return false;
         }
+        z += 1;
+        if z == bands {
+            z = 0;
+            y += 1;
+        }
+    }
+    true
+}
+
+/// `write_part` under interleaving by pixel, a block of pixels at a time.
+fn write_pixels(
+    shape: Shape,
+    kind: Kind,
+    layout: Layout,
+    part: Part,
+    offsets: &[u16],
+    bytes: &mut [u8],
+) -> bool
+    requires layout { IsLayout layout }
+    requires order { layout.order ≡ Bip }
+    requires part { IsPart layout shape part }
+    requires offsets { AreOffsets shape kind offsets.now }
+    requires whole { length bytes.old ≡ part_samples layout shape part * layout.bytes }
+    ensures written { IsTrue result → AreWrittenTo shape kind layout (first_sample layout shape part) (part_samples layout shape part) offsets.now bytes.new }
+    ensures good { CanBeWritten shape kind layout offsets.now → IsTrue result }
+{
+    let _count = shape.sample_count();
+    let scale = Scale::new(kind, layout.bytes);
+    let mut pixel = 0;
+    while pixel < part.count {
+        let block = BLOCK.min(part.count - pixel);
+        for z in 0..shape.bands() {
+            let piece = Piece::pixels(shape, part, z, pixel, block);
+            if !write_piece(layout, &scale, piece, offsets, bytes) {
+                return false;
+            }
+        }
+        pixel += block;
     }
     true
 }

@@ -106,14 +106,3 @@ pub(crate) fn index_at(shape: Shape, z: u32, y: u32, x: u32) -> usize
     let row = z as usize * shape.rows() as usize + y as usize;
     row * shape.columns() as usize + x as usize
 }
-
-/// Returns the index of item `c` of part `b` of group `a`, where each group has `parts` parts, and each part `items` items.
-pub(crate) fn index_among(parts: u32, items: u32, a: u32, b: u32, c: u32) -> usize
-    requires outer { a < 65536 }
-    requires inner { (b < parts) × (parts ≤ 65536) }
-    requires item { (c < items) × (items ≤ 65536) }
-    ensures { result ≡ index_in items parts a b c }
-{
-    let part = a as usize * parts as usize + b as usize;
-    part * items as usize + c as usize
-}

@@ -16,9 +16,9 @@ overflow_mul-from c = omega (arith, c.requires.whole, bytes_there c.args.layout 
 pub overflow_add-from : goal.overflow_add-from
 overflow_add-from c = omega (arith, c.requires.whole, bytes_there c.args.layout c.loop-i.i c.args.count c.requires.layout c.loop-i-test.true)
 
-pub returns-then-not-has : goal.returns-then-not-has
-returns-then-not-has c =
-    let d = (goal.at.returns-then-not-has c).After-value in
+pub returns-then-not-has-clause-first : goal.returns-then-not-has-clause-first
+returns-then-not-has-clause-first c =
+    let d = (goal.at.returns-then-not-has-clause-first c).After-value in
     let g : SFits w32 c.value.result = record { sfits = c.value.type_inv } in
     let there = bytes_there c.args.layout c.loop-i.i c.args.count c.requires.layout c.loop-i-test.true in
     record { there = omega (arith, there); bad = λ h. false≢true (c.if-not-has.ensures.1 (rw (to_z-of_z g, value_is d) h)); first = c.loop-i.invariant }

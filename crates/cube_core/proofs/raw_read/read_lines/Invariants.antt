@@ -1,16 +1,11 @@
-use Rattle.std.proofs.Common.{◌-◌}
-use Rattle.cube_core.specs.Raw.{IsOffsetOf}
-use Rattle.cube_core.proofs.Pieces.{EachPast}
+use Rattle.std.proofs.Common.{◌≡◌, ◌+◌, ◌*◌, ◌<◌}
+use Rattle.cube_core.proofs.Words.{AreOffsets, AreReadTo}
 use Rattle.cube_core.proofs.raw_read.read_lines.Given as goal
 
-abbrev pub invariant-loop-z : goal.invariant-loop-z
-invariant-loop-z l = EachPast l.shape (IsOffsetOf l.shape l.fn.kind l.layout l.bytes l.offsets) l.y l.x l.count l.z
-
-abbrev pub invariant-loop-x : goal.invariant-loop-x
-invariant-loop-x l = EachPast l.shape (IsOffsetOf l.shape l.fn.kind l.layout l.bytes l.offsets) l.y l.x 0 0
-
-abbrev pub decreases-loop-x : goal.decreases-loop-x
-decreases-loop-x l = l.columns - l.x
-
-abbrev pub invariant-loop-y : goal.invariant-loop-y
-invariant-loop-y l = EachPast l.shape (IsOffsetOf l.shape l.fn.kind l.layout l.bytes l.offsets) l.y 0 0 0
+abbrev pub invariant-loop-line : goal.invariant-loop-line
+invariant-loop-line l = record {
+  spot : l.y * l.shape.bands + l.z ≡ l.part.first + l.line;
+  band : l.z < l.shape.bands;
+  offsets : AreOffsets l.shape l.fn.kind l.offsets;
+  read : AreReadTo l.shape l.fn.kind l.layout (l.part.first * l.shape.columns) (l.line * l.shape.columns) l.bytes l.initial.offsets l.offsets;
+}

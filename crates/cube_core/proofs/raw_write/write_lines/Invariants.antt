@@ -1,16 +1,10 @@
-use Rattle.std.proofs.Common.{◌-◌}
-use Rattle.cube_core.specs.Pieces.{IsWritten}
-use Rattle.cube_core.proofs.Pieces.{EachPast}
+use Rattle.std.proofs.Common.{◌≡◌, ◌+◌, ◌*◌, ◌<◌}
+use Rattle.cube_core.proofs.Words.{AreWrittenTo}
 use Rattle.cube_core.proofs.raw_write.write_lines.Given as goal
 
-abbrev pub invariant-loop-z : goal.invariant-loop-z
-invariant-loop-z l = EachPast l.shape (IsWritten l.shape l.fn.kind l.layout l.offsets l.bytes) l.y l.x l.count l.z
-
-abbrev pub invariant-loop-x : goal.invariant-loop-x
-invariant-loop-x l = EachPast l.shape (IsWritten l.shape l.fn.kind l.layout l.offsets l.bytes) l.y l.x 0 0
-
-abbrev pub decreases-loop-x : goal.decreases-loop-x
-decreases-loop-x l = l.columns - l.x
-
-abbrev pub invariant-loop-y : goal.invariant-loop-y
-invariant-loop-y l = EachPast l.shape (IsWritten l.shape l.fn.kind l.layout l.offsets l.bytes) l.y 0 0 0
+abbrev pub invariant-loop-line : goal.invariant-loop-line
+invariant-loop-line l = record {
+  spot : l.y * l.shape.bands + l.z ≡ l.part.first + l.line;
+  band : l.z < l.shape.bands;
+  written : AreWrittenTo l.shape l.fn.kind l.layout (l.part.first * l.shape.columns) (l.line * l.shape.columns) l.offsets l.bytes;
+}

@@ -1,17 +1,13 @@
-use Rattle.std.proofs.Common.{◌≡◌, ◌*◌, ◌<◌, ◌∙◌, sym, ap, length, arith}
-use Rattle.cube_core.proofs.Words.{sample_count, Image, samples_of}
-use Rattle.cube_core.proofs.Written.{raw_bytes_written, can_be_written}
+use Rattle.std.proofs.Common.{◌≡◌, ◌<◌, arith, ap}
+use Rattle.cube_core.proofs.Words.{Image, sample_count}
+use Rattle.cube_core.proofs.PartBytes.{whole_written}
+use Rattle.cube_core.proofs.RawBytes.{length-raw_bytes}
 use Rattle.cube_core.proofs.cube.Cube.write_raw.Goals as goal
 
 pub returns : goal.returns
 returns c =
-    let shape_is : c.self.inside.shape ≡ c.shape-shape.result = ap (λ (i : Image). i.shape) c.self.view_is ∙ sym c.shape-shape.ensures in
-    let image_is : record { shape = c.shape-shape.result; kind = c.self.inside.kind; samples = samples_of c.self.inside.kind c.self.inside.offsets.items }
-    ≡ c.args.self.now = rw (← shape_is) c.self.view_is in
-    let some : 0 < sample_count c.shape-shape.result = omega (arith, c.sample_count-count.ensures.value, c.sample_count-count.ensures.range) in
-    let full : length c.self.inside.offsets.items ≡ sample_count c.shape-shape.result = rw shape_is at c.self.invariant.whole in
-    let can = can_be_written _ _ _ _ _ image_is some full c.requires.fits in
-    let true_is = c.write_raw-all.ensures.good (rw c.deref.ensures.value can) in
-    let room : length c.args.bytes.now ≡ sample_count c.shape-shape.result * c.args.layout.bytes = rw c.shape-shape.ensures c.requires.room in
-    raw_bytes_written _ _ _ _ _ _ image_is some (omega (arith, c.write_raw-all.auto.bytes, room)) full
-    (rw c.deref.ensures.value at (c.write_raw-all.ensures.written true_is))
+    let shape_is : c.self.inside.shape ≡ c.args.self.now.shape = ap (λ (i : Image). i.shape) c.self.view_is in
+    let range = rw shape_is at c.all.ensures.range in
+    let some : 0 < sample_count c.args.self.now.shape = omega (arith, range) in
+    whole_written _ _ c.args.layout _ _ (sample_count c.args.self.now.shape) (rw shape_is at c.all.ensures.first) (rw shape_is at c.all.ensures.samples)
+    (length-raw_bytes c.args.self.now c.args.layout c.requires.layout some) c.write_part.ensures
