@@ -1,5 +1,5 @@
 -- What a sink took of bytes that weren't written whole.
-use Rattle.std.specs.Prelude.{◌≡◌, ◌⊎◌, ℕ, ◌<◌, List, length, take, Option}
+use Rattle.std.specs.Prelude.{◌≡◌, ◌⊎◌, ℕ, ◌+◌, ◌<◌, List, length, take, Option}
 use Rattle.cube_core.specs.declared.fault.Fault.{Fault}
 use Rattle.cube_core.specs.declared.fault.Fault.TheVariants.{Write}
 use Rattle.command_devices.specs.Devices.{Took, Rose}
@@ -8,6 +8,11 @@ use Rattle.command_devices.specs.Devices.{Took, Rose}
 abbrev pub IsCutShort : Option (List ℕ) → Option (List ℕ) → ℕ → ℕ → ℕ → ℕ → List ℕ → Fault → Type 0
 IsCutShort old new failures failures_after stalls stalls_after bytes fault =
     (n : ℕ) × (fault ≡ Write n) × (n < length bytes) × Took old new (take n bytes) × (Rose failures failures_after ⊎ Rose stalls stalls_after)
+
+-- after `sent` others, the sink took the first n bytes, and then failed or stalled; the fault says how many there were with those
+abbrev pub IsCutAfter : ℕ → Option (List ℕ) → Option (List ℕ) → ℕ → ℕ → ℕ → ℕ → List ℕ → Fault → Type 0
+IsCutAfter sent old new failures failures_after stalls stalls_after bytes fault =
+    (n : ℕ) × (fault ≡ Write (sent + n)) × (n < length bytes) × Took old new (take n bytes) × (Rose failures failures_after ⊎ Rose stalls stalls_after)
 
 -- a fault that says how many bytes went out
 abbrev pub IsWrite : Fault → Type 0

@@ -101,3 +101,27 @@ fn read_after<S: Source>(source: &mut S, bytes: &mut [u8], had: usize) -> Result
 {
     source.read(&mut bytes[had..])
 }
+
+/// Reads until the buffer is full or the source ends, and returns how many bytes came to the buffer's front.
+///
+/// Returns `Read` if the source fails.
+pub fn fill<S: Source>(source: &mut S, buffer: &mut [u8]) -> Result<usize, Fault>
+    ensures within { IfOk result (λ n. n ≤ length buffer.old) }
+    ensures given { IfOk result (λ n. Gave (S.left source.old) (S.left source.new) (take n buffer.new)) }
+    ensures whole { IfOk result (λ n. (n ≡ length buffer.old) ⊎ IsEnd (S.left source.new)) }
+    ensures bounded { GaveWithin (λ _. length buffer.old) (S.left source.old) (S.left source.new) }
+    ensures worked { OnOk result (S.failures source.new ≡ S.failures source.old) }
+    ensures refused { IfErr result (λ e. (e ≡ Read) × Rose (S.failures source.old) (S.failures source.new)) }
+{
+    let mut had = 0;
+    while had < buffer.len() {
+        let Ok(n) = read_after(source, buffer, had) else {
+            return Err(Fault::Read);
+        };
+        if n == 0 {
+            return Ok(had);
+        }
+        had += n;
+    }
+    Ok(had)
+}

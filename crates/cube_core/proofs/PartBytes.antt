@@ -1,14 +1,18 @@
 -- What reading and writing a part makes of raw bytes.
 use Rattle.std.proofs.Common.{◌≡◌, ◌+◌, ◌*◌, ◌-◌, ◌<◌, ◌≤◌, ℕ, suc, zero, List, [], ◌∷◌, ◌++◌, length, take, drop, get_or, refl, sym, ap, ◌∙◌, subst, arith, inl, inr}
-use Rattle.std.proofs.Common.{length-take, length-drop, length-append, take-take, Result, Ok, Err, IfOk}
+use Rattle.std.proofs.Common.{length-take, length-drop, length-append, take-take, Result, Ok, Err, IfOk, IfErr}
 use Rattle.std.proofs.lemmas.List.{take-append-drop, drop-drop, nil_from_length, drop_at, take_at, take_all, drop-take}
 use Rattle.std.proofs.lemmas.Bool.{cases_lt}
 use Rattle.std.proofs.lemmas.Nat.{mul-le}
 use Rattle.cube_core.proofs.Words.{Place, Layout, Sizes, sample_count, SampleKind, Image, sample_at, places, place_index, IsLayout, order_of}
 use Rattle.cube_core.proofs.Words.{raw_value, bytes_at, sample_bytes, raw_bytes, flat_map, sample_by, HaveBytes, CanBeWritten}
-use Rattle.cube_core.proofs.Words.{AreReadTo, AreWrittenTo, RawOrder, unit_of, unit_count}
+use Rattle.cube_core.proofs.Words.{AreReadTo, AreWrittenTo, AreSamples, IsBadSample, IsFound, IsCube, IsKind, RawOrder, unit_of, unit_count}
 use Rattle.cube_core.specs.declared.layout.RawOrder.TheVariants as raw
+use Rattle.cube_core.specs.declared.fault.Fault.{Fault}
+use Rattle.cube_core.specs.declared.fault.Fault.TheVariants.{SampleRange}
+use Rattle.cube_core.specs.Layout.{IsFirstBad}
 use Rattle.cube_core.proofs.Fitting.{has_bytes}
+use Rattle.cube_core.proofs.Offsets.{offset_is_sample}
 use Rattle.cube_core.proofs.Orders.{StandsAt, place_at_index, length-places, place_index_below}
 use Rattle.cube_core.proofs.RawBytes.{AreBytes, image, bytes_at_small, sample_bytes_again, length-raw_bytes, length-sample_bytes}
 use Rattle.cube_core.proofs.Raws.{place_of, lawful_order, bytes_there}
@@ -44,10 +48,10 @@ front_piece i w m xs h =
     rw (← split, drop-take (i * w) (m - i * w) xs) (take-take w (m - i * w) (drop (i * w) xs) (omega arith))
 
 -- a piece of one list before another, and of the other
-piece_before : (i w m : ℕ) (xs ys : List ℕ) → length xs ≡ m → i * w + w ≤ m → take w (drop (i * w) (xs ++ ys)) ≡ take w (drop (i * w) xs)
+pub piece_before : (i w m : ℕ) (xs ys : List ℕ) → length xs ≡ m → i * w + w ≤ m → take w (drop (i * w) (xs ++ ys)) ≡ take w (drop (i * w) xs)
 piece_before i w m xs ys long h = sym (front_piece i w m (xs ++ ys) h) ∙ ap (λ (zs : List ℕ). take w (drop (i * w) zs)) (take_at xs ys m long)
 
-piece_after : (from i w : ℕ) (xs ys : List ℕ) → length xs ≡ from * w → take w (drop ((from + i) * w) (xs ++ ys)) ≡ take w (drop (i * w) ys)
+pub piece_after : (from i w : ℕ) (xs ys : List ℕ) → length xs ≡ from * w → take w (drop ((from + i) * w) (xs ++ ys)) ≡ take w (drop (i * w) ys)
 piece_after from i w xs ys long =
     let sum : (from + i) * w ≡ from * w + i * w = omega arith in
     rw (sum, ← drop-drop (i * w) (from * w) (xs ++ ys), drop_at xs ys (from * w) long) refl
@@ -133,6 +137,17 @@ part_fits s k l from n bytes old new layout some within small full_old full read
           rw value (has_bytes l k (bytes_at l bytes (i - from)) layout (bytes_at_small l bytes (i - from) small)))
     ])
 
+-- each of them is of the kind
+pub part_samples_are : (s : Sizes) (k : SampleKind) (l : Layout) (from n : ℕ) (bytes old new : List ℕ) → IsKind k → 0 < sample_count s
+    → from + n ≤ sample_count s → AreReadTo s k l from n bytes old new → AreSamples k l bytes n
+part_samples_are s k l from n bytes old new kind some within read i lt =
+    let there = place_of s (order_of l.order s) (from + i) (lawful_order l.order s some) (omega arith) in
+    let at : place_index s (order_of l.order s) there.0 ≡ from + i = there.1.index in
+    let back : from + i - from ≡ i = omega arith in
+    let known = read there.0 there.1.place (rw at (omega arith)) in
+    let value = rw (at, back) at (known.value (rw at (omega arith))) in
+    rw (← value) (offset_is_sample k _ kind (known.below (rw at (omega arith))))
+
 -- ---- writing
 
 -- what is written of a part are its raw bytes
@@ -201,3 +216,70 @@ whole_written xs raw l from n N none all long h =
 pub ok_by_both : {T E : Type 0} (r : Result T E) (P Q R : T → Type 0) → IfOk r P → IfOk r Q → ((t : T) → P t → Q t → R t) → IfOk r R
 ok_by_both (Ok t) P Q R h k both = both t h k
 ok_by_both (Err e) P Q R h k both = tt
+
+-- the first bad sample stays the first, whatever comes after
+pub bad_stays : (k : SampleKind) (l : Layout) (before more : List ℕ) (fault : Fault) → IsBadSample k l before fault → IsBadSample k l (before ++ more) fault
+bad_stays k l before more fault (i, e, first) = (
+  i,
+  e,
+  record {
+    there = omega (arith, first.there, length-append before more);
+    bad = λ h. first.bad (rw (same i first.there) at h);
+    first = λ j lt. rw (same j (omega (arith, mul-le (j + 1) l.bytes (i + 1) l.bytes (omega arith) (omega arith), first.there))) (first.first j lt);
+  },
+)
+  where
+    same : (j : ℕ) → (j + 1) * l.bytes ≤ length before → bytes_at l (before ++ more) j ≡ bytes_at l before j
+    same j h = piece_before j l.bytes (length before) before more refl (omega (arith, h))
+
+-- samples that follow others
+pub samples_follow : (k : SampleKind) (l : Layout) (before bytes : List ℕ) (from n : ℕ) → length before ≡ from * l.bytes → AreSamples k l before from
+    → AreSamples k l bytes n → AreSamples k l (before ++ bytes) (from + n)
+samples_follow k l before bytes from n long first more j lt =
+    elim (cases_lt j from) [
+      | inl early ↦
+          rw (piece_before j l.bytes (length before) before bytes refl (omega (arith, long, mul-le (j + 1) l.bytes from l.bytes (omega arith) (omega arith)))) (first j early)
+      | inr late ↦
+          (let back : from + (j - from) ≡ j = omega arith in
+          rw (rw back at (piece_after from (j - from) l.bytes before bytes long)) (more (j - from) (omega arith)))
+    ]
+
+-- the first bad sample of bytes that follow others
+pub bad_follows : (k : SampleKind) (l : Layout) (before bytes : List ℕ) (from i : ℕ) → length before ≡ from * l.bytes → AreSamples k l before from
+    → IsFirstBad k l bytes i → IsFirstBad k l (before ++ bytes) (from + i)
+bad_follows k l before bytes from i long samples first =
+    record {
+      there = omega (arith, first.there, long, length-append before bytes);
+      bad = λ h. first.bad (rw (piece_after from i l.bytes before bytes long) at h);
+      first = samples_follow k l before bytes from i long samples first.first;
+    }
+
+-- what is found once one more part has come
+pub found_more : (s : Sizes) (k : SampleKind) (l : Layout) (before bytes : List ℕ) (from n at many : ℕ) (c : Image) (result : Result Image Fault)
+    → IsFound s k l before from (Ok c) → at ≡ from → many ≡ n → length bytes ≡ n * l.bytes → IfOk result IsCube
+    → IfOk result (λ d. (d.shape ≡ c.shape) × (d.kind ≡ c.kind))
+    → IfOk result (λ d. take ((at + many) * l.bytes) (raw_bytes d l) ≡ take (at * l.bytes) (raw_bytes c l) ++ bytes)
+    → IfOk result (λ d. HaveBytes c l at → HaveBytes d l (at + many)) → IfOk result (λ d. AreSamples c.kind l bytes many)
+    → IfErr result (λ e. (i : ℕ) × (e ≡ SampleRange (at + i)) × IsFirstBad c.kind l bytes i) → IsFound s k l (before ++ bytes) (from + n) result
+found_more s k l before bytes from n at many c (Ok d) found at_is many_is long cube same read fits samples bad =
+    let (whole, shape, kind, raw_is, have, known) = found.cube in
+    let fit : HaveBytes c l from → HaveBytes d l (from + n) = rw (at_is, many_is) at fits in
+    record {
+      long = omega (arith, long, found.long, length-append before bytes);
+      cube = (
+        cube,
+        same.0 ∙ shape,
+        same.1 ∙ kind,
+        (rw (at_is, many_is) at read) ∙ ap (λ (xs : List ℕ). xs ++ bytes) raw_is,
+        fit have,
+        samples_follow k l before bytes from n found.long known (rw (kind, many_is) at samples),
+      );
+      bad = tt;
+    }
+found_more s k l before bytes from n at many c (Err e) found at_is many_is long cube same read fits samples (i, e_is, first) =
+    let (whole, shape, kind, raw_is, have, known) = found.cube in
+    record {
+      long = omega (arith, long, found.long, length-append before bytes);
+      cube = tt;
+      bad = (from + i, rw at_is at e_is, bad_follows k l before bytes from i found.long known (rw kind at first));
+    }

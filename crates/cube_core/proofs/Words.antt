@@ -8,7 +8,7 @@ unfoldable pub use Rattle.cube_core.specs.Order.{place_index, places}
 pub use Rattle.cube_core.specs.Layout.{IsLayout, order_of, twos_complement, raw_value, bytes_at, HasBytes, HaveBytes, raw_code, HasBytesAt, raw_number}
 unfoldable pub use Rattle.cube_core.specs.Layout.{sample_bytes, raw_bytes, samples_in}
 pub use Rattle.cube_core.specs.Scale.{StandsFor, SpellOffset, half_of, zero_offset, number_of_rebased}
-pub use Rattle.cube_core.specs.Raw.{AreSamples}
+pub use Rattle.cube_core.specs.Raw.{AreSamples, IsBadSample, IsFound}
 pub use Rattle.cube_core.specs.Pieces.{CanBeWritten, sample_by}
 pub use Rattle.cube_core.specs.Parts.{IsPieceOf, IsPart, IsReadAt, AreReadTo, IsWrittenAt, AreWrittenTo, unit_of, unit_count, first_sample, part_samples}
 pub use Rattle.cube_core.specs.Offsets.{AreOffsets, AreRowOffsets}

@@ -4,7 +4,7 @@ ghost use Rattle.std.specs.Prelude.{◌≡◌, ◌≢◌, ◌↔◌, ◌+◌, �
 ghost use Rattle.cube_core.specs.Shape.{sample_count};
 ghost use Rattle.cube_core.specs.Image.{IsCube, IsPlace, sample_at, put};
 ghost use Rattle.cube_core.specs.Layout.{IsLayout, raw_bytes, HaveBytes, IsFirstBad, IsFirstUnfit};
-ghost use Rattle.cube_core.specs.Raw.{IsRawFault, IsUnfit};
+ghost use Rattle.cube_core.specs.Raw.{AreSamples, IsRawFault, IsUnfit};
 ghost use Rattle.cube_core.specs.declared.fault.Fault.TheVariants.{RawLength, SampleRange, WantOfMemory};
 ghost use Rattle.cube_core.specs.Kind.{IsSample};
 ghost use Rattle.cube_core.specs.Offsets.{AreRowOffsets};
@@ -101,6 +101,7 @@ impl Cube {
             ≡ take (first_sample layout self.shape part * layout.bytes) (raw_bytes self layout) ++ bytes.now) }
         ensures fits { IfOk result (λ c. HaveBytes self layout (first_sample layout self.shape part)
             → HaveBytes c layout (first_sample layout self.shape part + part_samples layout self.shape part)) }
+        ensures samples { IfOk result (λ _. AreSamples self.kind layout bytes.now (part_samples layout self.shape part)) }
         ensures refused { IfErr result (λ e. (i : ℕ) × (e ≡ SampleRange (first_sample layout self.shape part + i)) × IsFirstBad self.kind layout bytes.now i) }
     {
         let Cube {

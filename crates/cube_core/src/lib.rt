@@ -12,6 +12,7 @@ pub mod part;
 mod piece;
 mod raw_read;
 mod raw_write;
+pub mod reading;
 mod scale;
 pub mod shape;
 pub mod worked;

@@ -2,7 +2,7 @@ use Rattle.std.proofs.Common.{◌≡◌, ◌+◌, ◌*◌, ◌<◌, ◌≤◌, l
 use Rattle.std.proofs.lemmas.List.{with_items_is}
 use Rattle.std.specs.Vec.{with_items}
 use Rattle.cube_core.proofs.Words.{sample_count, unit_of}
-use Rattle.cube_core.proofs.PartBytes.{part_read, part_fits, part_within}
+use Rattle.cube_core.proofs.PartBytes.{part_read, part_fits, part_samples_are, part_within}
 use Rattle.cube_core.proofs.RawBytes.{is_cube}
 use Rattle.cube_core.proofs.cube.Cube.read_part.Goals as goal
 use Rattle.cube_core.proofs.cube.Cube.read_part.Goals.{After-read_part}
@@ -55,3 +55,9 @@ returns-then-read_part-clause-whole c =
     let d = (goal.at.returns-then-read_part-clause-whole c).After-read_part in
     rw (items d) (is_cube _ _ _ c.sample_count-count.ensures.sizes (rw c.bits-bits.ensures.value at c.bits-bits.ensures.range)
     (c.if-read_part.ensures.offsets refl))
+
+pub returns-then-read_part-clause-samples : goal.returns-then-read_part-clause-samples
+returns-then-read_part-clause-samples c =
+    let d = (goal.at.returns-then-read_part-clause-samples c).After-read_part in
+    rw (← c.self.view_is) (part_samples_are c.self.inside.shape c.self.inside.kind c.args.layout _ _ c.args.bytes.now _ c.read_part.new.offsets
+    (rw c.bits-bits.ensures.value at c.bits-bits.ensures.range) (some d) (within d) (c.if-read_part.ensures.filled refl))

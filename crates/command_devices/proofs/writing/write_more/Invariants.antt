@@ -1,6 +1,6 @@
 use Rattle.std.proofs.Common.{◌≡◌, ◌≤◌, ◌-◌, length, take}
 use Rattle.command_devices.specs.Devices.{Took}
-use Rattle.command_devices.proofs.writing.write_all.Given as goal
+use Rattle.command_devices.proofs.writing.write_more.Given as goal
 
 abbrev pub invariant-loop-written : goal.invariant-loop-written
 invariant-loop-written g l = record {

@@ -1,8 +1,8 @@
 use Rattle.std.proofs.Common.{◌≡◌, ◌≤◌, ◌∙◌, ℕ, List, take, drop, take-add, length, inl, inr, refl, ap, arith, append-nil, length-drop, []}
 use Rattle.std.proofs.lemmas.List.{take_all}
 use Rattle.command_devices.proofs.Devices.{took_more, rises_is_rose, no_stall, stall_rises, rest_is}
-use Rattle.command_devices.proofs.writing.write_all.Goals as goal
-use Rattle.command_devices.proofs.writing.write_all.Goals.{In-Ok}
+use Rattle.command_devices.proofs.writing.write_more.Goals as goal
+use Rattle.command_devices.proofs.writing.write_more.Goals.{In-Ok, in_default-via-in-Ok+else-n-gt0, in_default-via-in_default}
 
 pub loop-written-preserved : goal.loop-written-preserved
 loop-written-preserved g c =
@@ -18,23 +18,23 @@ loop-written-preserved g c =
     }
 
 pub returns-in_default-clause-cut : goal.returns-in_default-clause-cut
-returns-in_default-clause-cut g c =
-    let none : c.in-Ok.n ≡ 0 = omega (arith, c.if-n-gt0.false) in
-    let rest = rest_is c.loop-written.written c.args.bytes.now in
-    let took = took_more _ _ _ (take c.loop-written.written c.args.bytes.now) [] c.loop-written.invariant.took (rw none at c.in-Ok.ensures.took) in
-    let rises = stall_rises c.in-Ok.n _ _ _ (omega arith)
-    (omega (arith, length-drop c.loop-written.written c.args.bytes.now, ap (λ (x : List ℕ). length x) rest)) c.in-Ok.ensures.stalled in
-    (c.loop-written.written, refl, omega arith, rw append-nil at took, inr (rises_is_rose _ _ (rw c.loop-written.invariant.stalls at rises)))
-
-pub returns-in_default-2-clause-cut : goal.returns-in_default-2-clause-cut
-returns-in_default-2-clause-cut g c =
-    let took = took_more _ _ _ (take c.loop-written.written c.args.bytes.now) [] c.loop-written.invariant.took c.in_default.ensures.same in (
-      c.loop-written.written,
-      refl,
-      omega arith,
-      rw append-nil at took,
-      inl (rises_is_rose _ _ (rw c.loop-written.invariant.failures at c.in_default.ensures.failed.0)),
-    )
+returns-in_default-clause-cut g c = elim c.in_default.branch [
+  | in_default-via-in-Ok+else-n-gt0 w ↦
+      (let none : w.in-Ok.n ≡ 0 = omega (arith, w.if-n-gt0) in
+      let rest = rest_is c.loop-written.written c.args.bytes.now in
+      let took = took_more _ _ _ (take c.loop-written.written c.args.bytes.now) [] c.loop-written.invariant.took (rw none at w.in-Ok.ensures.took) in
+      let rises = stall_rises w.in-Ok.n _ _ _ (omega arith)
+      (omega (arith, length-drop c.loop-written.written c.args.bytes.now, ap (λ (x : List ℕ). length x) rest)) w.in-Ok.ensures.stalled in
+      (c.loop-written.written, refl, omega arith, rw append-nil at took, inr (rises_is_rose _ _ (rw c.loop-written.invariant.stalls at rises))))
+  | in_default-via-in_default w ↦
+      (let took = took_more _ _ _ (take c.loop-written.written c.args.bytes.now) [] c.loop-written.invariant.took w.in_default.ensures.same in (
+        c.loop-written.written,
+        refl,
+        omega arith,
+        rw append-nil at took,
+        inl (rises_is_rose _ _ (rw c.loop-written.invariant.failures at w.in_default.ensures.failed.0)),
+      ))
+]
 
 pub returns-clause-whole : goal.returns-clause-whole
 returns-clause-whole g c =

@@ -1,0 +1,6 @@
+//! Raw bytes, read from a source into a cube, and written from a cube to a sink, a piece at a time.
+#![tactic(auto)]
+
+mod part;
+pub mod read;
+pub mod write;
