@@ -10,13 +10,13 @@ ghost use Rattle.command_devices.specs.Reading.{ToldAsRead};
 ghost use Rattle.command_devices.specs.Writing.{IsWrite};
 
 use coder_pipe::encode::encode_one;
-use command_devices::reading::read_up_to;
 use command_devices::sink::Sink;
 use command_devices::source::Source;
 use command_devices::writing::write_all;
 use command_words::settings::CompressSettings;
 use cube_core::cube::Cube;
 use cube_core::fault::Fault;
+use raw_streams::read::read_raw;
 use std::alloc::Global;
 
 /// Reads a cube's raw bytes, codes the cube, and writes the file.
@@ -82,9 +82,5 @@ pub(crate) fn read_cube<S: Source>(
     ensures bounded { GaveWithin (λ _. raw_limit settings.now) (S.left source.old) (S.left source.new) }
 {
     let params = &settings.params;
-    // At most 2^48 samples, so one byte more is still a number.
-    let _count = params.shape.sample_count();
-    let wanted = settings.layout.length(params.shape);
-    let raw = read_up_to(alloc, source, wanted + 1)?;
-    Cube::from_raw(alloc, params.shape, params.kind, settings.layout, &raw)
+    read_raw(alloc, source, params.shape, params.kind, settings.layout)
 }

@@ -1,8 +1,9 @@
 //! From a file to its cube's raw bytes.
 
 ghost use Rattle.std.specs.Prelude.{◌≡◌, ◌⊎◌, IfOk, IfErr, OnOk};
-ghost use Rattle.cube_core.specs.Layout.{IsLayout};
-ghost use Rattle.ccsds_command.specs.Expand.{Expands, HasFileOf, HasNoFile, HasRaw, IsExpandFault, IsExpandRefusal};
+ghost use Rattle.cube_core.specs.Layout.{IsLayout, HaveBytes};
+ghost use Rattle.cube_core.specs.Shape.{sample_count};
+ghost use Rattle.ccsds_command.specs.Expand.{Expands, HasFileOf, HasNoFile, IsExpandFault, IsExpandRefusal};
 ghost use Rattle.cube_core.specs.declared.fault.Fault.TheVariants.{WantOfMemory};
 ghost use Rattle.command_devices.specs.Reading.{IsReadRefusal, ToldAsRead, file_limit};
 ghost use Rattle.command_devices.specs.Devices.{GaveBelow, GaveWithin};
@@ -12,10 +13,10 @@ use coder_pipe::decode::decode;
 use command_devices::reading::read_file;
 use command_devices::sink::Sink;
 use command_devices::source::Source;
-use command_devices::writing::write_all;
 use cube_core::cube::Cube;
 use cube_core::fault::Fault;
 use cube_core::layout::Layout;
+use raw_streams::write::write_raw;
 use std::alloc::Global;
 
 /// Reads a file, decodes it, and writes its cube's raw bytes.
@@ -42,22 +43,27 @@ pub fn run_expand<S: Source, K: Sink>(
     ensures bounded { GaveWithin (λ _. file_limit) (S.left source.old) (S.left source.new) }
     ensures unfilled { IfErr result (λ e. e ≡ WantOfMemory → GaveBelow file_limit (S.left source.old) (S.left source.new)) }
 {
-    let raw = raw_of_source(alloc, source, *layout)?;
-    write_all(sink, &raw)
+    let cube = fitting_cube(alloc, source, *layout)?;
+    write_raw(alloc, sink, &cube, *layout)
 }
 
-/// Returns the raw bytes of the cube whose file the source has.
-fn raw_of_source<S: Source>(alloc: Global, source: &mut S, layout: Layout) -> Result<Vec<u8>, Fault>
+/// Returns the cube whose file the source has, if each of its samples fits in its bytes.
+fn fitting_cube<S: Source>(alloc: Global, source: &mut S, layout: Layout) -> Result<Cube, Fault>
     requires { IsLayout layout }
-    ensures raw { IfOk result (λ raw. HasRaw layout (S.left source.old) raw.items) }
+    ensures cube { IfOk result (HasFileOf (S.left source.old)) }
+    ensures fits { IfOk result (λ c. HaveBytes c layout (sample_count c.shape)) }
     ensures refused { IfErr result (IsExpandRefusal layout (S.left source.old) (S.failures source.old) (S.failures source.new)) }
     ensures worked { OnOk result (S.failures source.new ≡ S.failures source.old) }
     ensures told { IfErr result (ToldAsRead (S.failures source.old) (S.failures source.new)) }
     ensures bounded { GaveWithin (λ _. file_limit) (S.left source.old) (S.left source.new) }
+    ensures short { OnOk result (GaveBelow file_limit (S.left source.old) (S.left source.new)) }
     ensures unfilled { IfErr result (λ e. e ≡ WantOfMemory → GaveBelow file_limit (S.left source.old) (S.left source.new)) }
 {
     let cube = decoded(alloc, source)?;
-    cube.to_raw(alloc, layout)
+    match cube.unfit(layout) {
+        None => Ok(cube),
+        Some(index) => Err(Fault::SampleRange { index }),
+    }
 }
 
 /// Returns the cube whose file the source has.
