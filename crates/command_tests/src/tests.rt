@@ -7,6 +7,7 @@ mod failing_streams;
 mod inspect;
 mod lines;
 mod options;
+mod raw_bytes;
 mod reading_and_writing;
 mod refused_lines;
 mod reports;
