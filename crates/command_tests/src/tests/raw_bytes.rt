@@ -152,7 +152,9 @@ fn a_wrong_length_is_told_before_a_bad_sample(rt: HostRuntime) {
 }
 
 /// Asserts that a sink whose call `call` fails has the raw bytes of the calls before it, three in each.
-fn stops_at(rt: &impl Abort, alloc: Global, order: RawOrder, raw: &[u8], file: &[u8], call: u64) {
+fn stops_at(rt: &impl Abort, alloc: Global, order: RawOrder, raw: &[u8], file: &[u8], call: u64)
+    requires { call < 4 }
+{
     let mut source = CutSource::new(file, 100, None);
     let mut sink = CutSink::new(alloc, 100, 3, Some(call)).expect(rt, "memory");
     let answer = run_expand(alloc, &mut source, &mut sink, &Layout { order, ..ONE_BYTE });
