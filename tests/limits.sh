@@ -41,6 +41,10 @@ in_little_memory() {
     if [ "$status" -eq 0 ]; then
         whole_runs=$((whole_runs + 1))
         same "$name in $kilobytes kB" out "$whole"
+    elif [ "$status" -eq 139 ]; then
+        # The stack isn't allocated: where it can't grow, the system ends the program, which has written nothing by then.
+        ended_runs=$((ended_runs + 1))
+        if [ -e out ]; then holds "$name in $kilobytes kB" out ''; fi
     elif [ "$status" -ne 127 ]; then
         refused_runs=$((refused_runs + 1))
         # Where there is no memory for the line, nothing is printed.
@@ -57,6 +61,7 @@ for coder in sample block; do
     for command in compress expand; do
         whole_runs=0
         refused_runs=0
+        ended_runs=0
         for kilobytes in $(seq 2600 20 4600); do
             if [ "$command" = compress ]; then
                 in_little_memory compress "$kilobytes" wanted compress $words --coder $coder scene out
@@ -67,6 +72,7 @@ for coder in sample block; do
         if [ "$whole_runs" -eq 0 ] || [ "$refused_runs" -eq 0 ]; then
             complain "$command by $coder: memory was always or never refused"
         fi
+        if [ "$ended_runs" -gt 2 ]; then complain "$command by $coder: the system ended it $ended_runs times"; fi
     done
 done
 
