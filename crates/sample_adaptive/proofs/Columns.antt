@@ -12,7 +12,7 @@ use Rattle.sample_adaptive.specs.Runs.{code_with}
 use Rattle.sample_adaptive.specs.Taken.{CoderState, HasSettings, Writes, WritesColumn, code_by, counted, of_band, with_band}
 use Rattle.sample_adaptive.specs.BandStates.{state_of, statistics_of}
 use Rattle.sample_adaptive.specs.ColumnLanes.{with_lanes}
-use Rattle.sample_adaptive.specs.EightWords.{texts}
+use Rattle.word_lanes.specs.EightWords.{texts}
 use Rattle.sample_adaptive.proofs.LaneStates.{lane_state, no_lanes, one_lane_more, lanes_count, later_lane}
 use Rattle.sample_adaptive.proofs.Tracking.{settings_stay, statistics_at}
 use Rattle.sample_adaptive.proofs.Writing.{column_more, writes_after}

@@ -13,7 +13,7 @@ use Rattle.header_bits.specs.Bits.{bits_of}
 use Rattle.sample_adaptive.specs.declared.code_settings.CodeSettings.{CodeSettings}
 use Rattle.sample_adaptive.specs.declared.code_word.Code.{Code}
 use Rattle.sample_adaptive.specs.declared.statistics.Statistics.{Statistics}
-use Rattle.sample_adaptive.specs.EightWords.{texts}
+use Rattle.word_lanes.specs.EightWords.{texts}
 use Rattle.sample_adaptive.specs.Runs.{AreNeighbours, IsPiece, IsPlainWord, statistics_within, sum_after, text_within, words_from}
 use Rattle.sample_adaptive.specs.Statistics.{code_parameter}
 use Rattle.sample_adaptive.specs.Thresholds.{threshold}

@@ -3,8 +3,8 @@ use Rattle.std.proofs.Common.{◌≡◌, ℕ, zero, suc, ◌+◌, ◌*◌, ◌/�
 use Rattle.std.proofs.Common.{append_assoc, arith, inl, inr}
 use Rattle.std.proofs.lemmas.List.{append_cancel_left}
 use Rattle.std.proofs.lemmas.Bool.{cases_lt, lt-ltb, le-ltb}
-use Rattle.std.proofs.lemmas.Nat.{pow_pos, pow-add, mul-le, shr_split}
-use Rattle.std.proofs.Math.Nat.{mod-lt, mod-eq_of_lt, div-eq_of_lt, pow-succ'}
+use Rattle.std.proofs.lemmas.Nat.{pow_pos, shr_split}
+use Rattle.std.proofs.Math.Nat.{mod-lt, div-eq_of_lt, pow-succ'}
 use Rattle.std.proofs.Math.Pow.{pow_mono}
 use Rattle.header_bits.specs.Bits.{bits_of}
 use Rattle.header_bits.proofs.Numbers.{bits_of-add, bits_of-join, bits_of-mod, bits_of_zero, bits_of_one, taken_is}
@@ -119,18 +119,3 @@ pub word_unique : OneWord
 word_unique c m n x y p q e =
     let f = form_unique c (form_of c m) (form_of c n) x y (form_of-fits c m p) (form_of-fits c n q) e in
     (sym (spelt-form_of c m) ∙ ap (spelt c) f.0 ∙ spelt-form_of c n, f.1)
-
--- ---- two words as one
-
-pub both_below : (a b u v : ℕ) → u < 2 ^ a → v < 2 ^ b → u * 2 ^ b + v < 2 ^ (a + b)
-both_below a b u v p q =
-    let most = mul-le (u + 1) (2 ^ b) (2 ^ a) (2 ^ b) (omega (arith, p)) (omega arith) in
-    let next : (u + 1) * 2 ^ b ≡ u * 2 ^ b + 2 ^ b = grind arith in
-    omega (arith, q, most, next, pow-add 2 a b)
-
--- within 64 bits nothing of the first is lost
-pub both_whole : (a b u v : ℕ) → a + b ≤ 64 → u < 2 ^ a → v < 2 ^ b → (u * 2 ^ b % 18446744073709551616 ≡ u * 2 ^ b) × (u * 2 ^ b + v < 18446744073709551616)
-both_whole a b u v few p q =
-    let power : 2 ^ (a + b) ≤ 2 ^ 64 = pow_mono few in
-    let below = both_below a b u v p q in
-    (mod-eq_of_lt (omega (arith, below, power)), omega (arith, below, power))

@@ -1,6 +1,5 @@
 pub mod Body
 pub mod ColumnLanes
-pub mod EightWords
 pub mod Unfold
 pub mod Given
 pub mod Laws

@@ -5,17 +5,17 @@ ghost use Rattle.std.specs.List.{AllByRecursion};
 ghost use Rattle.lanes.specs.Lanes.{number};
 ghost use Rattle.sample_adaptive.specs.BandStates.{AreBandStates, state_of};
 ghost use Rattle.sample_adaptive.specs.ColumnLanes.{with_lanes};
-ghost use Rattle.sample_adaptive.specs.EightWords.{AreShort, word_text};
+ghost use Rattle.word_lanes.specs.EightWords.{AreShort, word_text};
 ghost use Rattle.sample_adaptive.specs.Runs.{code_with};
 ghost use Rattle.sample_adaptive.specs.Statistics.{next_statistics, code_parameter};
 ghost use Rattle.sample_adaptive.specs.Words.{code_word};
 
 use crate::band_state::BandState;
 use crate::code_settings::CodeSettings;
-use crate::eight_words::EightWords;
 use crate::statistics::Statistics;
 use lanes::eight;
 use std::simd::prelude::*;
+use word_lanes::eight_words::EightWords;
 
 /// What the next residuals of eight bands are written as, and the bands' statistics after them.
 #[derive(Clone, Copy)]

@@ -2,11 +2,10 @@
 
 ghost use Rattle.std.specs.Prelude.{◌≡◌, ◌+◌, ◌*◌, ◌^◌, ◌<◌, ◌≤◌, ◌++◌, List, Bool, IsTrue, length, take, min, slice_index_or, ℕ};
 ghost use Rattle.lanes.specs.Lanes.{number};
-ghost use Rattle.sample_adaptive.specs.EightWords.{AreShort, word_text};
+ghost use Rattle.word_lanes.specs.EightWords.{AreShort, word_text};
 ghost use Rattle.sample_adaptive.specs.Runs.{AreLaneWords, AreNeighbours, IsKeptCodes, IsPiece, sum_after, text_within, words_from};
 ghost use Rattle.sample_adaptive.specs.Thresholds.{threshold};
 
-use crate::eight_words::{EightWords, push_eight, push_long_eight};
 use crate::kept_code::KeptCode;
 use crate::kept_codes::{KeptCodes, lower_parameter};
 use crate::lane_words::{LaneWords, lane_words};
@@ -15,6 +14,7 @@ use crate::written_run::{LaterRun, PieceState, put_each};
 use header_bits::bit_writer::BitWriter;
 use lanes::{eight, lines, masks};
 use std::simd::prelude::*;
+use word_lanes::eight_words::{EightWords, push_eight, push_long_eight};
 
 /// What changes from eight residuals of a piece to the next: two code parameters, and the sum so far.
 #[derive(Clone, Copy)]

@@ -7,7 +7,6 @@ pub mod code_word;
 pub mod column;
 mod column_lanes;
 mod eight_run;
-mod eight_words;
 mod kept_code;
 mod kept_codes;
 mod lane_words;

@@ -13,13 +13,13 @@ use crate::band_state::BandState;
 use crate::code_settings::CodeSettings;
 use crate::code_word::{Code, Word, word_of};
 use crate::column_lanes::{coded, store};
-use crate::eight_words::push_eight;
 use crate::stats::Stats;
 use crate::written_run::make_room;
 use crate::written_singly::{put_each, put_long_words};
 use core::mem::replace;
 use cube_core::fault::Fault;
 use header_bits::bit_writer::BitWriter;
+use word_lanes::eight_words::push_eight;
 
 impl Stats {
     /// Appends the code word of residual `t` of band `z`, then that of the next band, and so on, and updates the bands'

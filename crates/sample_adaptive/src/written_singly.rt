@@ -3,7 +3,7 @@
 ghost use Rattle.std.specs.Prelude.{◌≡◌, ◌+◌, ◌*◌, ◌^◌, ◌<◌, ◌≤◌, ◌++◌, length, slice_index_or, ℕ};
 ghost use Rattle.std.specs.List.{AllByRecursion};
 ghost use Rattle.lanes.specs.Lanes.{number};
-ghost use Rattle.sample_adaptive.specs.EightWords.{texts};
+ghost use Rattle.word_lanes.specs.EightWords.{texts};
 ghost use Rattle.sample_adaptive.specs.Words.{code_word};
 ghost use Rattle.sample_adaptive.specs.Taken.{CoderState, HasSettings, WritesColumn, code_by, counted, of_band, with_band};
 ghost use Rattle.sample_adaptive.specs.BandStates.{IsBandState, AreBandStates, statistics_of};

@@ -1,6 +1,7 @@
 use Rattle.std.proofs.Common.{◌≡◌, ◌+◌, ◌^◌, ◌<◌, ◌≤◌, ◌∙◌, ℕ, arith}
 use Rattle.lanes.specs.Lanes.{number}
-use Rattle.sample_adaptive.specs.EightWords.{word_text}
+use Rattle.word_lanes.specs.EightWords.{word_text}
+use Rattle.word_lanes.proofs.Merging.{short_length}
 use Rattle.sample_adaptive.specs.Runs.{text_within}
 use Rattle.sample_adaptive.proofs.Counting.{accumulator_range}
 use Rattle.sample_adaptive.proofs.Eights.{plain_lane, short_word, texts_more}
@@ -28,6 +29,11 @@ word c j few =
 
 pub push_eight-requires-clause-words : goal.push_eight-requires-clause-words
 push_eight-requires-clause-words c = record { length = λ j few. (word c j few).0; below = λ j few. (word c j few).1 }
+
+pub push_eight-requires-clause-room : goal.push_eight-requires-clause-room
+push_eight-requires-clause-room c =
+    let short = short_length c.eight_of.result (record { length = λ j few. (word c j few).0; below = λ j few. (word c j few).1 }) in
+    omega (arith, c.requires.room, short)
 
 pub returns-then-are_within-clause-text : goal.returns-then-are_within-clause-text
 returns-then-are_within-clause-text c = λ old text.

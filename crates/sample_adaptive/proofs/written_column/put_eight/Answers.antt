@@ -2,7 +2,8 @@ use Rattle.std.proofs.Common.{ℕ, List, Bool, ◌≡◌, ◌+◌, get_or, sym, 
 use Rattle.std.proofs.lemmas.List.{take_all}
 use Rattle.lanes.specs.Lanes.{number}
 use Rattle.sample_adaptive.specs.BandStates.{state_of}
-use Rattle.sample_adaptive.specs.EightWords.{word_text}
+use Rattle.word_lanes.specs.EightWords.{word_text}
+use Rattle.word_lanes.proofs.Merging.{short_length}
 use Rattle.sample_adaptive.specs.Runs.{code_with}
 use Rattle.sample_adaptive.specs.Statistics.{AreStatistics, next_statistics}
 use Rattle.sample_adaptive.specs.Words.{code_word}
@@ -13,6 +14,9 @@ use Rattle.sample_adaptive.proofs.written_column.put_eight.Goals as goal
 
 first : (j : ℕ) → 0 + j ≡ j
 first j = omega arith
+
+pub push_eight-requires-clause-room : goal.push_eight-requires-clause-room
+push_eight-requires-clause-room c = omega (arith, c.requires.room, c.requires.eight, short_length c.coded-coded.result.words (c.coded-coded.ensures.short c.if-coded-2.true))
 
 pub returns-then-coded-2-clause-written : goal.returns-then-coded-2-clause-written
 returns-then-coded-2-clause-written c = λ v t some same has.

@@ -1,6 +1,6 @@
 use Rattle.std.proofs.Common.{◌++◌, ℕ, List, Bool, get_or, sym, ap, ap₂, append_assoc, ◌∙◌, arith}
 use Rattle.lanes.specs.Lanes.{number}
-use Rattle.sample_adaptive.specs.EightWords.{texts}
+use Rattle.word_lanes.specs.EightWords.{texts}
 use Rattle.sample_adaptive.specs.Words.{code_word}
 use Rattle.sample_adaptive.proofs.Columns.{texts_after}
 use Rattle.sample_adaptive.proofs.written_singly.put_long_words.Goals as goal

@@ -2,7 +2,7 @@
 use Rattle.std.specs.Prelude.{ℕ, zero, suc, ◌≡◌, ◌+◌, ◌*◌, ◌^◌, ◌<◌, ◌≤◌, Bool, List, [], ◌++◌}
 use Rattle.header_bits.specs.Bits.{bits_of}
 use Rattle.lanes.specs.Lanes.{number}
-use Rattle.sample_adaptive.specs.declared.eight_words.EightWords.{EightWords}
+use Rattle.word_lanes.specs.declared.eight_words.EightWords.{EightWords}
 
 -- n texts, from number i on, one after another
 abbrev pub texts : (ℕ → List Bool) → ℕ → ℕ → List Bool

@@ -1,35 +1,35 @@
-//! Eight code words side by side in lanes, merged and appended.
+//! Eight words side by side in lanes, merged and appended.
 
-ghost use Rattle.std.specs.Prelude.{◌≡◌, ◌+◌, ◌≤◌, ◌++◌};
-ghost use Rattle.sample_adaptive.specs.EightWords.{AreShort, AreWords, ArePairs, text_at, texts, word_text};
+ghost use Rattle.std.specs.Prelude.{◌≡◌, ◌+◌, ◌≤◌, ◌++◌, length};
+ghost use Rattle.lanes.specs.Lanes.{number};
+ghost use Rattle.word_lanes.specs.EightWords.{AreShort, AreWords, ArePairs, text_at, texts, word_text};
 
 use header_bits::bit_writer::BitWriter;
 use lanes::unsigned;
 use std::simd::prelude::*;
 
-/// Eight words of at most 14 bits: word i consists of the `lengths[i]` lowest bits of `bits[i]`, which has no others.
+/// Eight words: word i consists of the `lengths[i]` lowest bits of `bits[i]`, which has no others.
 #[derive(Clone, Copy)]
-pub(crate) struct EightWords {
+pub struct EightWords {
     pub bits: [u16; 8],
     pub lengths: [u16; 8],
 }
 
-/// Appends eight words, the first one first, for which the writer has room.
+/// Appends eight words of at most 14 bits, the first one first, for which the writer has room.
 #[inline(always)]
-pub(crate) fn push_eight(writer: BitWriter, words: EightWords) -> BitWriter
+pub fn push_eight(writer: BitWriter, words: EightWords) -> BitWriter
     requires words { AreShort words }
-    requires room { 112 ≤ writer.room }
+    requires room { length (texts (word_text words) 0 8) ≤ writer.room }
     ensures text { result.bits ≡ writer.bits ++ texts (word_text words) 0 8 }
-    ensures room { writer.room ≤ result.room + 112 }
-    ensures still { result.room ≤ writer.room }
+    ensures room { writer.room ≡ result.room + length (texts (word_text words) 0 8) }
+    ensures most { length (texts (word_text words) 0 8) ≤ 112 }
 {
-    let quads = quads_of(pairs_of(words));
-    push_two(writer, quads)
+    push_two(writer, quads_of(pairs_of(words)))
 }
 
 /// Appends eight words of at most 48 bits, one after another, for which the writer has room.
 #[inline(always)]
-pub(crate) fn push_long_eight(writer: BitWriter, words: EightWords) -> BitWriter
+pub fn push_long_eight(writer: BitWriter, words: EightWords) -> BitWriter
     requires words { AreWords 48 8 words.bits words.lengths }
     requires room { 384 ≤ writer.room }
     ensures text { result.bits ≡ writer.bits ++ texts (word_text words) 0 8 }
@@ -100,10 +100,9 @@ fn quads_of(words: Pairs) -> Quads
 #[inline(always)]
 fn push_two(writer: BitWriter, words: Quads) -> BitWriter
     requires words { AreWords 56 2 words.bits words.lengths }
-    requires room { 112 ≤ writer.room }
+    requires room { number words.lengths 0 + number words.lengths 1 ≤ writer.room }
     ensures text { result.bits ≡ writer.bits ++ (text_at words.bits words.lengths 0 ++ text_at words.bits words.lengths 1) }
-    ensures room { writer.room ≤ result.room + 112 }
-    ensures still { result.room ≤ writer.room }
+    ensures room { writer.room ≡ result.room + (number words.lengths 0 + number words.lengths 1) }
 {
     let mut writer = writer;
     let [first, second] = words.bits;

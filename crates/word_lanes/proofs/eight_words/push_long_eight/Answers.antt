@@ -1,7 +1,7 @@
 use Rattle.std.proofs.Common.{◌≡◌, ℕ, suc, ◌+◌, ◌-◌, ◌++◌, ◌∙◌, List, Bool, ap, ap₂, append_assoc, arith}
 use Rattle.header_bits.specs.Bits.{bits_of}
-use Rattle.sample_adaptive.specs.EightWords.{texts, word_text}
-use Rattle.sample_adaptive.proofs.eight_words.push_long_eight.Goals as goal
+use Rattle.word_lanes.specs.EightWords.{texts, word_text}
+use Rattle.word_lanes.proofs.eight_words.push_long_eight.Goals as goal
 
 pub loop-i-preserved : goal.loop-i-preserved
 loop-i-preserved c =

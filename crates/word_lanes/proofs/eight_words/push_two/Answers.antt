@@ -1,8 +1,8 @@
 use Rattle.std.proofs.Common.{◌++◌, List, Bool, ap, ◌∙◌, arith}
 use Rattle.header_bits.proofs.Numbers.{bits_of-join}
 use Rattle.lanes.specs.Lanes.{number}
-use Rattle.sample_adaptive.proofs.Forms.{both_below, both_whole}
-use Rattle.sample_adaptive.proofs.eight_words.push_two.Goals as goal
+use Rattle.word_lanes.proofs.Merging.{both_below, both_whole}
+use Rattle.word_lanes.proofs.eight_words.push_two.Goals as goal
 
 pub overflow_add-first : goal.overflow_add-first
 overflow_add-first c =

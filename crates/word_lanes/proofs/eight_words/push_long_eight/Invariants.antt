@@ -1,6 +1,6 @@
 use Rattle.std.proofs.Common.{◌≡◌, ◌+◌, ◌-◌, ◌*◌, ◌≤◌, ◌++◌}
-use Rattle.sample_adaptive.specs.EightWords.{texts, word_text}
-use Rattle.sample_adaptive.proofs.eight_words.push_long_eight.Given as goal
+use Rattle.word_lanes.specs.EightWords.{texts, word_text}
+use Rattle.word_lanes.proofs.eight_words.push_long_eight.Given as goal
 
 abbrev pub invariant-loop-i : goal.invariant-loop-i
 invariant-loop-i l = record {

@@ -1,6 +1,6 @@
 use Rattle.std.proofs.Common.{◌^◌, ◌∙◌, ap, arith}
-use Rattle.sample_adaptive.proofs.Merging.{lanes_merged}
-use Rattle.sample_adaptive.proofs.eight_words.pairs_of.Goals as goal
+use Rattle.word_lanes.proofs.Merging.{lanes_merged}
+use Rattle.word_lanes.proofs.eight_words.pairs_of.Goals as goal
 
 pub returns-clause-words : goal.returns-clause-words
 returns-clause-words c =

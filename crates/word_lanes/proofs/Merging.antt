@@ -1,11 +1,27 @@
 -- Neighbours of words side by side, merged into one.
-use Rattle.std.proofs.Common.{◌≡◌, ℕ, ◌+◌, ◌*◌, ◌^◌, ◌<◌, ◌≤◌, ◌++◌, List, [], Bool, refl, sym, ap, ap₂, ◌∙◌, append_assoc, append-nil, arith}
+use Rattle.std.proofs.Common.{◌≡◌, ℕ, zero, suc, ◌+◌, ◌*◌, ◌%◌, ◌^◌, ◌<◌, ◌≤◌, ◌++◌, List, [], Bool, refl, sym, ap, ap₂, ◌∙◌, append_assoc, append-nil, length, arith}
+use Rattle.std.proofs.lemmas.List.{length-append}
+use Rattle.std.proofs.lemmas.Nat.{mul-le, pow-add}
+use Rattle.std.proofs.Math.Nat.{mod-eq_of_lt}
 use Rattle.std.proofs.Math.Pow.{pow_mono}
 use Rattle.header_bits.specs.Bits.{bits_of}
-use Rattle.header_bits.proofs.Numbers.{bits_of-join}
+use Rattle.header_bits.proofs.Numbers.{bits_of-join, length-bits_of}
 use Rattle.lanes.specs.Lanes.{number}
-use Rattle.sample_adaptive.specs.EightWords.{AreWords, ArePairs, texts}
-use Rattle.sample_adaptive.proofs.Forms.{both_below}
+use Rattle.word_lanes.specs.declared.eight_words.EightWords.{EightWords}
+use Rattle.word_lanes.specs.EightWords.{AreShort, AreWords, ArePairs, texts, word_text}
+
+pub both_below : (a b u v : ℕ) → u < 2 ^ a → v < 2 ^ b → u * 2 ^ b + v < 2 ^ (a + b)
+both_below a b u v p q =
+    let most = mul-le (u + 1) (2 ^ b) (2 ^ a) (2 ^ b) (omega (arith, p)) (omega arith) in
+    let next : (u + 1) * 2 ^ b ≡ u * 2 ^ b + 2 ^ b = grind arith in
+    omega (arith, q, most, next, pow-add 2 a b)
+
+-- within 64 bits nothing of the first is lost
+pub both_whole : (a b u v : ℕ) → a + b ≤ 64 → u < 2 ^ a → v < 2 ^ b → (u * 2 ^ b % 18446744073709551616 ≡ u * 2 ^ b) × (u * 2 ^ b + v < 18446744073709551616)
+both_whole a b u v few p q =
+    let power : 2 ^ (a + b) ≤ 2 ^ 64 = pow_mono few in
+    let below = both_below a b u v p q in
+    (mod-eq_of_lt (omega (arith, below, power)), omega (arith, below, power))
 
 -- a number of so many bits, which are those of two others
 pub record IsMerged (a n b m result length : ℕ) : Type 0 where
@@ -64,3 +80,14 @@ eight_texts text pair quad pairs quads =
     ap₂ (λ (x y : List Bool). x ++ y) first (second ∙ sym (append-nil ((text 4 ++ text 5) ++ (text 6 ++ text 7))))
     ∙ four_texts (text 0) (text 1) (text 2) (text 3) (((text 4 ++ text 5) ++ (text 6 ++ text 7)) ++ [])
     ∙ ap (λ (x : List Bool). text 0 ++ (text 1 ++ (text 2 ++ (text 3 ++ x)))) (four_texts (text 4) (text 5) (text 6) (text 7) [])
+
+-- words of at most so many bits each are no longer together
+texts_length : (most : ℕ) (text : ℕ → List Bool) → (n i : ℕ) → ((j : ℕ) → j < i + n → length (text j) ≤ most) → length (texts text i n) ≤ n * most
+texts_length most text zero i few = omega arith
+texts_length most text (suc n) i few =
+    let rest = texts_length most text n (suc i) (λ j lt. few j (omega (arith, lt))) in
+    let next : suc n * most ≡ most + n * most = grind arith in
+    omega (arith, length-append (text i) (texts text (suc i) n), few i (omega arith), rest, next)
+
+pub short_length : (w : EightWords) → AreShort w → length (texts (word_text w) 0 8) ≤ 112
+short_length w short = texts_length 14 (word_text w) 8 0 (λ j lt. rw (length-bits_of (number w.lengths j) (number w.bits j)) (short.length j lt))
