@@ -24,6 +24,7 @@ pub mod Given
 pub mod Runs
 pub mod Emits
 pub mod Gathers
+pub mod LaneTexts
 pub mod Packing
 pub mod Stored
 pub mod Holds

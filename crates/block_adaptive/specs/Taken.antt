@@ -17,15 +17,6 @@ pub record GrowsByNeed (old new : Written) : Type 0 where
   pub longer : length old.bits ≤ length new.bits
   pub bounded : length new.bits + new.room ≤ max (length old.bits + old.room) (2 * length new.bits + 7)
 
--- a writer with these bits appended, within its room
-abbrev pub extended : Written → List Bool → Written
-extended w part = record { bits = w.bits ++ part; room = w.room - length part }
-
--- the same for a writer with bits gathered after it, for which it still has room
-pub record Appends (old : Written) (was : List Bool) (new : Written) (now text : List Bool) : Type 0 where
-  pub writes : Writes (extended old was) (extended new now) text
-  pub fits : length now ≤ new.room
-
 -- how the residuals are cut, the first block of which nothing was written, the number of zero blocks held from there on, and the values of the block begun
 pub record WriterState : Type 0 where
   pub cut : Cut

@@ -1,91 +1,24 @@
-//! Bits that are gathered in a word, so that whole words are pushed.
+//! Codes of any length, appended, and codes gathered in a word.
 
-ghost use Rattle.std.specs.Prelude.{◌≡◌, ◌+◌, ◌-◌, ◌^◌, ◌<◌, ◌≤◌, ◌++◌, [], length};
+ghost use Rattle.std.specs.Prelude.{◌≡◌, ◌+◌, ◌-◌, ◌^◌, ◌<◌, ◌≤◌, ◌++◌, length};
 ghost use Rattle.header_bits.specs.Bits.{bits_of, fundamental};
 ghost use Rattle.block_adaptive.specs.Options.{quotient_codes, low_groups};
-ghost use Rattle.block_adaptive.specs.Taken.{Writes, Appends};
+ghost use Rattle.block_adaptive.specs.Taken.{Writes};
 
-use header_bits::bit_writer::{BitWriter, filled_word};
-use std::marker::Model;
+use header_bits::bit_writer::BitWriter;
 
-/// Bits that follow those of a writer, fewer than a word.
-///
-/// A word that is full goes to the writer. Every push of a whole word fills a word of the writer, wherever a coded data set
-/// begins, so that the branch is predicted. Contracts see the bits.
-#[derive(Drop)]
-pub(crate) struct Gathered {
-    /// Its `held` lowest bits are gathered; the bits above those are unspecified.
-    part: u64,
-    held: u32,
-}
-
-impl Model for Gathered {
-    ghost use Rattle.std.specs.Prelude.{List, Bool, ◌<◌};
-    ghost use Rattle.header_bits.specs.Bits.{bits_of};
-
-    ghost Value = { List Bool };
-
-    ghost view = { λ a. bits_of a.held a.part };
-
-    ghost invariant = { λ a. a.held < 64 };
-}
-
-impl Gathered {
-    /// Returns no bits.
-    #[inline(always)]
-    #[tactic(auto, using(header_bits::proofs::Numbers::no_bits))]
-    pub(crate) fn new() -> Gathered
-        ensures { result ≡ [] }
-    {
-        Gathered { part: 0, held: 0 }
+/// Appends a fundamental sequence, up to 64 zeros at a time.
+#[inline(always)]
+pub(crate) fn append_fundamental(writer: &mut BitWriter, zeros: u64)
+    requires { zeros + 1 ≤ writer.old.room }
+    ensures { Writes writer.old writer.new (fundamental zeros) }
+{
+    let mut left = zeros;
+    while left >= 64 {
+        writer.push_reserved(0, 64);
+        left -= 64;
     }
-
-    /// Appends a number as `n` bits.
-    #[inline(always)]
-    #[tactic(auto, using(crate::proofs::Gathers::append_steps))]
-    pub(crate) fn append(&mut self, writer: &mut BitWriter, bits: u64, n: u32)
-        requires few { n ≤ 64 }
-        requires below { bits < 2 ^ n }
-        requires room { length self.old + n ≤ writer.old.room }
-        ensures { Appends writer.old self.old writer.new self.new (bits_of n bits) }
-    {
-        let free = 64 - self.held;
-        if n < free {
-            self.part = (self.part << n) | bits;
-            self.held += n;
-        } else {
-            let rest = n - free;
-            let word = filled_word(self.part, self.held, bits >> rest);
-            writer.push_reserved(word, 64);
-            self.part = bits;
-            self.held = rest;
-        }
-    }
-
-    /// Appends a fundamental sequence, up to 64 zeros at a time.
-    #[inline(always)]
-    pub(crate) fn append_fundamental(&mut self, writer: &mut BitWriter, zeros: u64)
-        requires { length self.old + (zeros + 1) ≤ writer.old.room }
-        ensures { Appends writer.old self.old writer.new self.new (fundamental zeros) }
-    {
-        let mut left = zeros;
-        while left >= 64 {
-            self.append(writer, 0, 64);
-            left -= 64;
-        }
-        self.append(writer, 1, left as u32 + 1);
-    }
-
-    /// Pushes the bits.
-    #[inline(always)]
-    #[tactic(auto, using(crate::proofs::Gathers::flush_steps))]
-    pub(crate) fn flush(self, writer: &mut BitWriter)
-        requires { length self ≤ writer.old.room }
-        ensures { Writes writer.old writer.new self }
-    {
-        let mask = (1u64 << self.held) - 1;
-        writer.push_reserved(self.part & mask, self.held);
-    }
+    writer.push_reserved(1, left as u32 + 1);
 }
 
 /// Returns the `held` bits of a word followed by a number's `n` bits.

@@ -17,3 +17,4 @@ pub mod worked;
 pub mod worked_codes;
 pub mod worked_refusals;
 mod writing;
+mod written_split;

@@ -4,125 +4,91 @@ ghost use Rattle.std.specs.Prelude.{◌≡◌, ◌+◌, ◌%◌, ◌^◌, ◌<�
 ghost use Rattle.std.specs.List.{AllByRecursion};
 ghost use Rattle.cube_core.specs.declared.fault.Fault.TheVariants.{WantOfMemory};
 ghost use Rattle.header_bits.specs.Bits.{bits_of, fundamental};
-ghost use Rattle.block_adaptive.specs.Options.{IsOption, zero_identifier, identifier, quotient_codes, low_groups, pair_codes, option_text, cost};
+ghost use Rattle.block_adaptive.specs.Options.{IsOption, zero_identifier, identifier, low_groups, pair_codes, option_text, cost};
 ghost use Rattle.block_adaptive.specs.DataSets.{run_text, run_code, spelled, spelling};
 ghost use Rattle.block_adaptive.specs.Positions.{IsPosition, blocks_from};
-ghost use Rattle.block_adaptive.specs.Taken.{Writes, Appends, GrowsByNeed, rest_of, run_and_block, data_sets_after, zeros_after};
+ghost use Rattle.block_adaptive.specs.Taken.{Writes, GrowsByNeed, rest_of, run_and_block, data_sets_after, zeros_after};
 
-use crate::choice::{choose, identifier_width, quotients_cost};
-use crate::gathering::{Gathered, low_word, quotient_word};
+use crate::choice::{choose, identifier_width};
+use crate::gathering::{append_fundamental, low_word};
 use crate::options::{Choice, CodeSet};
 use crate::segments::{Position, blocks_left};
+use crate::written_split::{append_low_eights, append_quotients};
+use core::mem::replace_with;
 use cube_core::fault::Fault;
 use header_bits::bit_writer::BitWriter;
 
-/// Appends the fundamental sequences of a block's values without their k lowest bits, eight at a time.
-#[inline(always)]
-fn append_quotients(gathered: &mut Gathered, writer: &mut BitWriter, k: u32, block: &[u16])
-    requires k { k ≤ 15 }
-    requires eights { length block.now % 8 ≡ 0 }
-    requires room { length gathered.old + length (quotient_codes k block.now) ≤ writer.old.room }
-    ensures { Appends writer.old gathered.old writer.new gathered.new (quotient_codes k block.now) }
-{
-    let mut first = 0;
-    while first < block.len() {
-        let eight = &block[first..first + 8];
-        let cost = quotients_cost(k, eight);
-        if cost < 64 {
-            gathered.append(writer, quotient_word(k, eight), cost as u32);
-        } else {
-            append_codes(gathered, writer, k, eight);
-        }
-        first += 8;
-    }
-}
-
-/// Appends the fundamental sequences of values without their k lowest bits, one at a time.
-fn append_codes(gathered: &mut Gathered, writer: &mut BitWriter, k: u32, values: &[u16])
-    requires k { k ≤ 15 }
-    requires room { length gathered.old + length (quotient_codes k values.now) ≤ writer.old.room }
-    ensures { Appends writer.old gathered.old writer.new gathered.new (quotient_codes k values.now) }
-{
-    for value in values {
-        gathered.append_fundamental(writer, u64::from(*value >> k));
-    }
+/// A block, and the option under which it is coded.
+#[derive(Clone, Copy)]
+struct Coding<'a> {
+    set: CodeSet,
+    choice: Choice,
+    block: &'a [u16],
 }
 
 /// Appends the k lowest bits of each value of a block, of four values at a time.
 #[inline(always)]
-fn append_lows(gathered: &mut Gathered, writer: &mut BitWriter, k: u32, block: &[u16])
+fn append_lows(writer: BitWriter, k: u32, block: &[u16]) -> BitWriter
     requires k { k ≤ 16 }
     requires fours { length block.now % 4 ≡ 0 }
-    requires room { length gathered.old + length (low_groups k block.now) ≤ writer.old.room }
-    ensures { Appends writer.old gathered.old writer.new gathered.new (low_groups k block.now) }
+    requires room { length (low_groups k block.now) ≤ writer.room }
+    ensures { Writes writer result (low_groups k block.now) }
 {
+    let mut writer = writer;
     let mut first = 0;
     while first < block.len() {
-        let four = &block[first..first + 4];
-        gathered.append(writer, low_word(k, four), 4 * k);
+        writer.push_reserved(low_word(k, &block[first..first + 4]), 4 * k);
         first += 4;
     }
+    writer
 }
 
 /// Appends the fundamental sequences of a block's pairs.
-fn append_pairs(gathered: &mut Gathered, writer: &mut BitWriter, block: &[u16])
+fn append_pairs(writer: BitWriter, block: &[u16]) -> BitWriter
     requires even { length block.now % 2 ≡ 0 }
-    requires room { length gathered.old + length (pair_codes block.now) ≤ writer.old.room }
-    ensures { Appends writer.old gathered.old writer.new gathered.new (pair_codes block.now) }
+    requires room { length (pair_codes block.now) ≤ writer.room }
+    ensures { Writes writer result (pair_codes block.now) }
 {
+    let mut writer = writer;
     for i in 0..block.len() / 2 {
         let first = block[2 * i] as u64;
         let second = block[2 * i + 1] as u64;
         let sum = first + second;
-        gathered.append_fundamental(writer, sum * (sum + 1) / 2 + second);
+        append_fundamental(&mut writer, sum * (sum + 1) / 2 + second);
     }
+    writer
 }
 
-/// Appends the coded data set of a block under an option.
+/// Appends the coded data set of a block under an option. The writer is passed by value, so that it stays in registers.
 #[inline(always)]
-fn append_option(
-    gathered: &mut Gathered,
-    writer: &mut BitWriter,
-    set: &CodeSet,
-    choice: Choice,
-    block: &[u16],
-)
-    requires bits { set.now.bits ≤ 16 }
-    requires option { IsOption set.now choice }
-    requires eights { length block.now % 8 ≡ 0 }
-    requires room { length gathered.old + cost set.now choice block.now ≤ writer.old.room }
-    ensures { Appends writer.old gathered.old writer.new gathered.new (option_text set.now choice block.now) }
+fn write_option(writer: BitWriter, coding: Coding) -> (BitWriter, ())
+    requires bits { coding.set.bits ≤ 16 }
+    requires option { IsOption coding.set coding.choice }
+    requires eights { length coding.block.now % 8 ≡ 0 }
+    requires room { cost coding.set coding.choice coding.block.now ≤ writer.room }
+    ensures { Writes writer result.0 (option_text coding.entry.set coding.entry.choice coding.entry.block.now) }
 {
-    let width = identifier_width(set);
-    match choice {
+    let mut writer = writer;
+    let set = coding.set;
+    let block = coding.block;
+    let width = identifier_width(&set);
+    match coding.choice {
         Choice::Uncoded => {
-            gathered.append(writer, (1 << width) - 1, width);
-            append_lows(gathered, writer, set.bits, block);
+            writer.push_reserved((1 << width) - 1, width);
+            (append_lows(writer, set.bits, block), ())
         }
         Choice::Second => {
-            gathered.append(writer, 1, width + 1);
-            append_pairs(gathered, writer, block);
+            writer.push_reserved(1, width + 1);
+            (append_pairs(writer, block), ())
         }
         Choice::Split(k) => {
-            gathered.append(writer, u64::from(k) + 1, width);
-            append_quotients(gathered, writer, k, block);
-            append_lows(gathered, writer, k, block);
+            writer.push_reserved(u64::from(k) + 1, width);
+            (
+                append_low_eights(append_quotients(writer, k, block), k, block),
+                (),
+            )
         }
     }
-}
-
-/// Writes the coded data set of a block under an option.
-#[inline(always)]
-fn write_option(writer: &mut BitWriter, set: &CodeSet, choice: Choice, block: &[u16])
-    requires bits { set.now.bits ≤ 16 }
-    requires option { IsOption set.now choice }
-    requires eights { length block.now % 8 ≡ 0 }
-    requires room { cost set.now choice block.now ≤ writer.old.room }
-    ensures { Writes writer.old writer.new (option_text set.now choice block.now) }
-{
-    let mut gathered = Gathered::new();
-    append_option(&mut gathered, writer, set, choice, block);
-    gathered.flush(writer);
 }
 
 /// Writes the coded data set of a run, whose code has `zeros` zeros.
@@ -130,10 +96,8 @@ fn write_run(writer: &mut BitWriter, set: &CodeSet, zeros: u32)
     requires room { length (run_text set.now (fundamental zeros)) ≤ writer.old.room }
     ensures { Writes writer.old writer.new (run_text set.now (fundamental zeros)) }
 {
-    let mut gathered = Gathered::new();
-    gathered.append(writer, 0, identifier_width(set) + 1);
-    gathered.append_fundamental(writer, u64::from(zeros));
-    gathered.flush(writer);
+    writer.push_reserved(0, identifier_width(set) + 1);
+    append_fundamental(writer, u64::from(zeros));
 }
 
 /// Returns the number of zeros of a run's code.
@@ -201,7 +165,12 @@ fn write_block(
     } else {
         writer.reserve(cost)?;
     }
-    write_option(writer, set, choice, block);
+    let coding = Coding {
+        set: *set,
+        choice,
+        block,
+    };
+    replace_with(writer, coding, write_option);
     Ok(())
 }
 

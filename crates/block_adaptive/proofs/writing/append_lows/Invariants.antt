@@ -6,7 +6,7 @@ use Rattle.block_adaptive.proofs.writing.append_lows.Given as goal
 abbrev pub invariant-loop-first : goal.invariant-loop-first
 invariant-loop-first l =
     record {
-      goes : Goes l.initial.writer l.initial.gathered l.writer l.gathered (low_groups l.k l.block) (low_groups l.k (drop l.first l.block));
+      goes : Goes l.fn.writer l.writer (low_groups l.k l.block) (low_groups l.k (drop l.first l.block));
       fours : l.first % 4 ≡ 0;
       within : l.first ≤ length l.block;
     }

@@ -1,12 +1,12 @@
 use Rattle.std.proofs.Common.{◌≡◌, ◌-◌, ◌%◌, ◌≤◌, drop, length}
 use Rattle.block_adaptive.specs.Options.{quotient_codes}
 use Rattle.block_adaptive.proofs.Gathers.{Goes}
-use Rattle.block_adaptive.proofs.writing.append_quotients.Given as goal
+use Rattle.block_adaptive.proofs.written_split.append_quotients.Given as goal
 
 abbrev pub invariant-loop-first : goal.invariant-loop-first
 invariant-loop-first l =
     record {
-      goes : Goes l.initial.writer l.initial.gathered l.writer l.gathered (quotient_codes l.k l.block) (quotient_codes l.k (drop l.first l.block));
+      goes : Goes l.fn.writer l.writer (quotient_codes l.k l.block) (quotient_codes l.k (drop l.first l.block));
       eights : l.first % 8 ≡ 0;
       within : l.first ≤ length l.block;
     }

@@ -2,7 +2,7 @@ use Rattle.std.proofs.lemmas.Grind.{common_steps}
 use Rattle.std.proofs.Common.{arith}
 use Rattle.block_adaptive.proofs.Emits.{quotient_next, quotient_end}
 use Rattle.block_adaptive.proofs.Gathers.{goes_step, goes_end}
-use Rattle.block_adaptive.proofs.writing.append_codes.Goals as goal
+use Rattle.block_adaptive.proofs.written_split.append_codes.Goals as goal
 use Rattle.block_adaptive.proofs.Zeros.{length-fundamental}
 
 pub append_fundamental-requires : goal.append_fundamental-requires
