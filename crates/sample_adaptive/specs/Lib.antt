@@ -13,3 +13,4 @@ pub mod Taken
 pub mod Thresholds
 pub mod BandStates
 pub mod Words
+pub mod WordParts

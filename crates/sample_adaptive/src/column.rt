@@ -13,7 +13,8 @@ ghost use Rattle.sample_adaptive.specs.BandStates.{IsBandState, AreBandStates, s
 use crate::band_state::BandState;
 use crate::code_settings::CodeSettings;
 use crate::code_word::{Code, take_from, take_word};
-use crate::short_column::{take_four, take_some};
+use crate::eight_column::take_eight;
+use crate::short_column::take_next;
 use crate::stats::Stats;
 use cube_core::fault::Fault;
 use header_bits::bit_reader::BitReader;
@@ -119,7 +120,7 @@ fn take_column(
 /// Reads one residual of each band, none of which is its first, as long as 57 bits are left and begin with a code word. Returns
 /// how many, and updates the bands' states.
 ///
-/// A loop that refuses nothing keeps all that it changes in registers. Short words are read four at a time.
+/// A loop that refuses nothing keeps all that it changes in registers. Eight words are read at a time, and else by `take_next`.
 #[inline(always)]
 fn take_ready(
     settings: CodeSettings,
@@ -142,27 +143,24 @@ fn take_ready(
     ensures long { length residuals.new ≡ length residuals.old }
     ensures bands { length bands.new ≡ length bands.old }
 {
+    if residuals.is_empty() {
+        return 0;
+    }
+    let counter = bands[z].statistics.counter;
     let mut ahead = reader.fork();
     let mut i = 0;
     while i < residuals.len() {
-        if residuals.len() - i >= 4 {
-            let taken = take_four(settings, thresholds, z, bands, &mut ahead, i, residuals);
+        if residuals.len() - i >= 8 {
+            let taken = take_eight(settings, counter, z, bands, &mut ahead, i, residuals);
             i += taken;
-            if taken >= 3 {
+            if taken == 8 {
                 continue;
             }
         }
         // A copy is passed on, so that the reader stays in registers.
         let mut rest = ahead.fork();
-        let taken = take_some(
-            settings,
-            thresholds,
-            index + i as u64,
-            z,
-            bands,
-            &mut rest,
-            i,
-            residuals,
+        let taken = take_next(
+            settings, thresholds, index, z, bands, &mut rest, i, residuals,
         );
         ahead = rest;
         i += taken;

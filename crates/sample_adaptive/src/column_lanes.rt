@@ -74,14 +74,14 @@ pub(crate) fn coded(
 
 /// The statistics of eight bands, lane by lane.
 #[derive(Clone, Copy)]
-struct EightStatistics {
-    counters: [u32; 8],
-    accumulators: [u32; 8],
+pub(crate) struct EightStatistics {
+    pub counters: [u32; 8],
+    pub accumulators: [u32; 8],
 }
 
 /// Returns the statistics of eight bands, from band `at` on.
 #[inline(always)]
-fn gathered(bands: &[BandState], at: usize) -> EightStatistics
+pub(crate) fn gathered(bands: &[BandState], at: usize) -> EightStatistics
     requires { at + 8 ≤ length bands.now }
     ensures counters { (j : ℕ) → j < 8 → number result.counters j ≡ (state_of bands.now (at + j)).statistics.counter }
     ensures accumulators { (j : ℕ) → j < 8 → number result.accumulators j ≡ (state_of bands.now (at + j)).statistics.accumulator }
@@ -112,7 +112,7 @@ fn taken(residuals: &[u16], i: usize) -> u16x8
 /// What the counter's products with powers of two are compared with is held between the counter and the product for D - 1, where it gives the least or the greatest
 /// code parameter: so each is the logarithm of its quotient by the counter.
 #[inline(always)]
-fn parameters(bits: u32, counter: u32, accumulators: u32x8) -> u32x8
+pub(crate) fn parameters(bits: u32, counter: u32, accumulators: u32x8) -> u32x8
     requires bits { (2 ≤ bits) × (bits ≤ 16) }
     requires counter { (1 ≤ counter) × (counter < 2 ^ 9) }
     requires accumulators { (j : ℕ) → j < 8 → number accumulators j < 2 ^ 25 }
@@ -126,7 +126,7 @@ fn parameters(bits: u32, counter: u32, accumulators: u32x8) -> u32x8
 
 /// Returns the accumulators with one more residual each, halved if `halving` is 1.
 #[inline(always)]
-fn summed(accumulators: u32x8, residuals: u16x8, halving: u32) -> u32x8
+pub(crate) fn summed(accumulators: u32x8, residuals: u16x8, halving: u32) -> u32x8
     requires accumulators { (j : ℕ) → j < 8 → number accumulators j < 2 ^ 25 }
     requires halving { halving ≤ 1 }
     ensures { (j : ℕ) → j < 8 → number result j ≡ (number accumulators j + number residuals j + halving) / 2 ^ halving }

@@ -18,12 +18,75 @@ use crate::statistics::{Statistics, parameter};
 use crate::thresholds::ROW;
 use header_bits::bit_reader::BitReader;
 
+/// Reads eight residuals or fewer, one of each band from band `z + i` on and none of which is its first, as long as 57 bits are left and
+/// begin with a code word, into `residuals` from index `i` on. Returns how many, and updates the bands' states. The residual at index 0 is at
+/// `index` in encoding order.
+///
+/// Short words are read four at a time.
+#[inline(never)]
+pub(crate) fn take_next(
+    settings: CodeSettings,
+    thresholds: &[u32],
+    index: u64,
+    z: usize,
+    bands: &mut [BandState],
+    reader: &mut BitReader,
+    i: usize,
+    residuals: &mut [u16],
+) -> usize
+    requires thresholds { AreThresholds settings.bits settings.rescaling.size thresholds.now }
+    requires state { AreBandStates settings bands.old }
+    requires within { i < length residuals.old }
+    requires inside { z + length residuals.old ≤ length bands.old }
+    requires long { (length residuals.old ≤ 2 ^ 16) × (index < 2 ^ 48) }
+    ensures taken { (v : CoderState) (t : ℕ) (first : Unread) → 0 < t → HasSettings v settings.bits settings.limit settings.rescaling.size
+        → Reaches (λ i. z + i) (λ i. t) 0 index i v (record v { bands = statistics_of bands.old }) first reader.old residuals.old
+        → Reaches (λ i. z + i) (λ i. t) 0 index (i + result) v (record v { bands = statistics_of bands.new }) first reader.new residuals.new }
+    ensures within { i + result ≤ length residuals.new }
+    ensures state { AreBandStates settings bands.new }
+    ensures count { reader.new.count ≡ reader.old.count }
+    ensures long { length residuals.new ≡ length residuals.old }
+    ensures bands { length bands.new ≡ length bands.old }
+{
+    let end = residuals.len().min(i + 8);
+    let mut ahead = reader.fork();
+    let mut at = i;
+    while at < end {
+        if end - at >= 4 {
+            let taken = take_four(settings, thresholds, z, bands, &mut ahead, at, residuals);
+            at += taken;
+            if taken >= 3 {
+                continue;
+            }
+        }
+        // A copy is passed on, so that the reader stays in registers.
+        let mut rest = ahead.fork();
+        let taken = take_some(
+            settings,
+            thresholds,
+            index + at as u64,
+            z,
+            bands,
+            &mut rest,
+            at,
+            residuals,
+        );
+        ahead = rest;
+        at += taken;
+        if taken == 0 {
+            break;
+        }
+    }
+    *reader = ahead;
+    at - i
+}
+
 /// Reads up to four residuals, one of each band from band `z + i` on and none of which is its first, as long as their code words are
 /// short, into `residuals` from index `i` on. Returns how many, and updates the bands' states.
 ///
 /// Where D is above 12, so few words may have at most 14 bits that longer ones are taken for short, three of a load.
 #[inline(always)]
-pub(crate) fn take_four(
+fn take_four(
     settings: CodeSettings,
     thresholds: &[u32],
     z: usize,
@@ -58,7 +121,7 @@ pub(crate) fn take_four(
 /// begin with a code word, into `residuals` from index `i` on. Returns how many, and updates the bands' states. The first residual is at
 /// `index` in encoding order.
 #[inline(never)]
-pub(crate) fn take_some(
+fn take_some(
     settings: CodeSettings,
     thresholds: &[u32],
     index: u64,

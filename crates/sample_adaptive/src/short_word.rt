@@ -133,7 +133,7 @@ pub(crate) fn take_short_word(
 
 /// Returns a word of the bits that are ahead with a one below them, so that it has a highest one whatever they are.
 #[inline(always)]
-fn with_one_below(word: u64) -> u64
+pub(crate) fn with_one_below(word: u64) -> u64
     ensures { (left : List Bool) (most : ℕ) → most ≤ 63 → IsAhead most left word → IsAhead most left result }
 {
     word | 1

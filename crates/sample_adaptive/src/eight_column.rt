@@ -1,0 +1,156 @@
+//! Eight code words of a column, read back at once: their code parameters are known before they are read.
+
+ghost use Rattle.std.specs.Prelude.{◌≡◌, ◌+◌, ◌*◌, ◌^◌, ◌<◌, ◌≤◌, ℕ, length, take, slice_index_or, IsTrue, IfSome};
+ghost use Rattle.header_bits.specs.Bits.{Unread};
+ghost use Rattle.lanes.specs.Lanes.{number};
+ghost use Rattle.sample_adaptive.specs.BandStates.{AreBandStates, state_of, statistics_of};
+ghost use Rattle.sample_adaptive.specs.Statistics.{next_statistics};
+ghost use Rattle.sample_adaptive.specs.Taken.{CoderState, HasSettings, Reaches};
+ghost use Rattle.sample_adaptive.specs.WordParts.{InSteps, IsWordNext, spelt_by};
+
+use crate::band_state::BandState;
+use crate::code_settings::CodeSettings;
+use crate::column_lanes::{gathered, parameters, store, summed};
+use crate::word_parts::{WordParts, take_apart};
+use header_bits::bit_reader::BitReader;
+use lanes::eight;
+use std::simd::prelude::*;
+
+/// Reads residuals `i` to `i + 7` of a column, none of which is the first of its band, if the bands from `z + i` on have this counter and their code words are seen
+/// whole by few loads and are no escapes. Returns 8, and updates the bands' statistics; or returns 0, and reads nothing.
+#[inline(always)]
+pub(crate) fn take_eight(
+    settings: CodeSettings,
+    counter: u32,
+    z: usize,
+    bands: &mut [BandState],
+    reader: &mut BitReader,
+    i: usize,
+    residuals: &mut [u16],
+) -> usize
+    requires counter { (1 ≤ counter) × (counter < 2 ^ 9) }
+    requires state { AreBandStates settings bands.old }
+    requires within { i + 8 ≤ length residuals.old }
+    requires inside { z + length residuals.old ≤ length bands.old }
+    requires long { length residuals.old ≤ 2 ^ 16 }
+    ensures taken { (v : CoderState) (t index : ℕ) (first : Unread) → 0 < t → HasSettings v settings.bits settings.limit settings.rescaling.size
+        → Reaches (λ i. z + i) (λ i. t) 0 index i v (record v { bands = statistics_of bands.old }) first reader.old residuals.old
+        → Reaches (λ i. z + i) (λ i. t) 0 index (i + result) v (record v { bands = statistics_of bands.new }) first reader.new residuals.new }
+    ensures few { result ≤ 8 }
+    ensures state { AreBandStates settings bands.new }
+    ensures count { reader.new.count ≡ reader.old.count }
+    ensures long { length residuals.new ≡ length residuals.old }
+    ensures bands { length bands.new ≡ length bands.old }
+{
+    let mut ahead = reader.fork();
+    let Some(read) = read_bands(settings, counter, bands, z + i, &mut ahead) else {
+        return 0;
+    };
+    store(bands, z + i, read.counter, &read.accumulators);
+    put_numbers(residuals, i, &read.numbers);
+    *reader = ahead;
+    8
+}
+
+/// Puts eight numbers into a list, from index `i` on.
+#[inline(always)]
+fn put_numbers(residuals: &mut [u16], i: usize, numbers: &[u16; 8])
+    requires { i + 8 ≤ length residuals.old }
+    ensures before { take i residuals.new ≡ take i residuals.old }
+    ensures numbers { (j : ℕ) → j < 8 → slice_index_or residuals.new (i + j) 0 ≡ number numbers.now j }
+    ensures long { length residuals.new ≡ length residuals.old }
+{
+    residuals[i..i + 8].copy_from_slice(numbers);
+}
+
+/// The next residuals of eight bands, and the bands' statistics after them.
+#[derive(Clone, Copy)]
+struct ReadBands {
+    numbers: [u16; 8],
+    counter: u32,
+    accumulators: [u32; 8],
+}
+
+/// Reads the next residuals of eight bands, from band `at` on, if the bands have this counter and the words can be read at once.
+#[inline(always)]
+fn read_bands(
+    settings: CodeSettings,
+    counter: u32,
+    bands: &[BandState],
+    at: usize,
+    reader: &mut BitReader,
+) -> Option<ReadBands>
+    requires counter { (1 ≤ counter) × (counter < 2 ^ 9) }
+    requires state { AreBandStates settings bands.now }
+    requires bands { at + 8 ≤ length bands.now }
+    ensures words { IfSome result (λ read. InSteps (IsWordNext settings bands.now at read.numbers) 8 reader.old.left reader.new.left) }
+    ensures statistics { IfSome result (λ read. (j : ℕ) → j < 8 → record { counter = read.counter; accumulator = number read.accumulators j }
+        ≡ next_statistics settings.rescaling.size (state_of bands.now (at + j)).statistics (number read.numbers j)) }
+    ensures count { reader.new.count ≡ reader.old.count }
+{
+    let before = gathered(bands, at);
+    if !eight::are_all(u32x8::from_array(before.counters), counter) {
+        return None;
+    }
+    let accumulators = u32x8::from_array(before.accumulators);
+    let k = parameters(settings.bits, counter, accumulators);
+    let shortest = eight::sum(k, u32x8::splat(1)).to_array();
+    let mut parts = WordParts {
+        zeros: [0; 8],
+        endings: [0; 8],
+    };
+    if !take_apart(settings.bits, &shortest, &mut parts, reader) {
+        return None;
+    }
+    let numbers = residuals_of(settings, k, parts)?;
+    let halving = u32::from(counter == settings.rescaling.greatest);
+    let after = summed(accumulators, u16x8::from_array(numbers), halving).to_array();
+    Some(ReadBands {
+        numbers,
+        counter: (counter + 1) >> halving,
+        accumulators: after,
+    })
+}
+
+/// Returns the residuals of eight words, if the words are lawful.
+#[inline(always)]
+fn residuals_of(settings: CodeSettings, k: u32x8, parts: WordParts) -> Option<[u16; 8]>
+    requires parameters { (j : ℕ) → j < 8 → number k j + 2 ≤ settings.bits }
+    ensures lawful { IfSome result (λ numbers. (j : ℕ) → j < 8 → (number parts.zeros j < settings.limit)
+        × (spelt_by (number k j) (number parts.zeros j) (number parts.endings j) < 2 ^ settings.bits)) }
+    ensures numbers { IfSome result (λ numbers. (j : ℕ) → j < 8 → number numbers j ≡ spelt_by (number k j) (number parts.zeros j) (number parts.endings j)) }
+{
+    let powers = eight::short(eight::powers(k));
+    let zeros = u16x8::from_array(parts.zeros);
+    if !are_lawful(settings, zeros, powers) {
+        return None;
+    }
+    let low = eight::rests(u16x8::from_array(parts.endings), powers);
+    Some(eight::short_sum(product(zeros, powers), low).to_array())
+}
+
+/// Returns whether each word begins with fewer zeros than an escape, and with so few that its residual has at most D bits. `powers` are 2^k.
+///
+/// A product with 2^(16 - D + k), of which the upper half counts, divides zeros by 2^(D - k).
+#[inline(always)]
+fn are_lawful(settings: CodeSettings, zeros: u16x8, powers: u16x8) -> bool
+    ensures plain { IsTrue result → (j : ℕ) → j < 8 → number zeros j < settings.limit }
+    ensures few { IsTrue result → (j k ending : ℕ) → j < 8 → number powers j ≡ 2 ^ k → k + 2 ≤ settings.bits
+        → spelt_by k (number zeros j) ending < 2 ^ settings.bits }
+{
+    let raised = product(powers, u16x8::splat(1 << (16 - settings.bits)));
+    if !eight::are_within(eight::high_products(zeros, raised), u16x8::splat(0)) {
+        return false;
+    }
+    let escape = u16x8::splat(settings.limit as u16);
+    let more = eight::short_sum(eight::capped(zeros, 32), u16x8::splat(1));
+    eight::are_within(more, escape)
+}
+
+/// Returns the product of each two lanes, exact wherever it fits in 16 bits.
+#[inline(always)]
+fn product(a: u16x8, b: u16x8) -> u16x8
+    ensures { (k : ℕ) → k < 8 → number a k * number b k < 2 ^ 16 → number result k ≡ number a k * number b k }
+{
+    a * b
+}
