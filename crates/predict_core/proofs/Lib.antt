@@ -41,3 +41,4 @@ pub mod WaveLanes
 pub mod WaveTiles
 pub mod WaveForms
 pub mod WaveRows
+pub mod WaveBegun

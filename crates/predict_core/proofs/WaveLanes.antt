@@ -116,21 +116,21 @@ offset_found d z y x greatest part sum whole delta cube there top is number =
 
 -- ---- a component of a lane
 
--- the place of a lane in a step
-module _ {q : ℕ} {f : Form} {p : Params} {s : ℕ → Settings} {d : Image} {first y origin last : ℕ} {above lower numbers own weights : List (List ℤ)}
-    (lanes : AreLanes q f p s d first y origin last above lower) (k : ℕ) (step : (8 ≤ k) × (k < last))
-    (now : AreInStep q p s d first y origin last k numbers own weights) (b : ℕ) (fits : b < 8) where
+-- the place of a lane that has begun, in a step up to its last column but one
+module _ {q : ℕ} {f : Form} {p : Params} {s : ℕ → Settings} {d : Image} {first y origin last n : ℕ} {above lower numbers own weights : List (List ℤ)}
+    (lanes : AreLanes q f p s d first y origin last above lower) (k : ℕ) (step : (8 ≤ k) × (k < last)) (begun : (n ≤ 8) × (n + 7 ≤ origin + k))
+    (now : AreInStep q p s d first y origin last n k numbers own weights) (b : ℕ) (mine : b < n) (right : column_at origin k b + 1 < d.shape.columns) where
   abbrev x : ℕ
   x = column_at origin k b
 
   abbrev z : ℕ
   z = first + b
 
-  left : 0 < x
-  left = omega (arith, step.0, fits)
+  fits : b < 8
+  fits = omega (arith, mine, begun.0)
 
-  right : x + 1 < d.shape.columns
-  right = omega (arith, step.1, lanes.inside)
+  left : 0 < x
+  left = omega (arith, mine, begun.1)
 
   there : IsPlace d.shape z y x
   there = record { band = (lanes.bands b fits).1; row = lanes.row.1; column = omega (arith, right) }
@@ -163,27 +163,37 @@ module _ {q : ℕ} {f : Form} {p : Params} {s : ℕ → Settings} {d : Image} {f
     | inl low ↦
         (let at : column_at origin (k - lag + 8) (8 + b - lag) ≡ x = omega (arith, low, few, step.0) in
         let there = lanes.below (k - lag) (8 + b - lag) (omega (arith, few, step.0)) (omega (arith, step.1)) (omega (arith, low))
-        (rw at right) in
+        (rw at left) (rw at right) in
         sym (lagged_low lower own k lag b low) ∙ there ∙ rw at (low_is lag few used low))
     | inr high ↦
         (let at : column_at origin (k - lag) (b - lag) ≡ x = omega (arith, high, few, step.0) in
-        let there = now.centrals (k - lag) (b - lag) (omega (arith, high, step.0, fits)) (omega (arith, some, step.0)) (omega (arith, fits)) in
+        let there = now.centrals (k - lag) (b - lag) (omega (arith, high, step.0, fits)) (omega (arith, some, step.0)) (omega (arith, mine)) (rw at left) (rw at right) in
         sym (lagged_high lower own k lag b high) ∙ there ∙ rw at (high_is lag used high))
   ]
 
   abbrev vector : List ℤ
   vector = difference_vector (s b).predictor d z y x
 
+  -- the offsets around it
+  before : column_at origin (k - 1) b ≡ x - 1
+  before = omega (arith, step.0)
+
+  west_is : place numbers (k - 1) b ≡ pos (number_at d z y (column_at origin (k - 1) b))
+  west_is = now.offsets (k - 1) b (omega (arith, step.0)) (omega (arith, step.0)) mine (omega (arith, left, step.0)) (omega (arith, left, right, step.0))
+
+  north_west_is : place above (k - 1) b ≡ pos (number_at d z (y - 1) (column_at origin (k - 1) b))
+  north_west_is = lanes.north (k - 1) b (omega (arith, step.1)) fits (omega (arith, left, step.0)) (omega (arith, left, right, step.0))
+
+  north_is : place above k b ≡ pos (number_at d z (y - 1) x)
+  north_is = lanes.north k b (omega (arith, step.1)) fits (omega (arith, left)) (omega (arith, right))
+
   -- the local sum of offsets
   sum_is : sum_at f.column numbers above k b ≡ offset_sum (s b).predictor d lanes.cube z y x there lanes.row.0 left right
   sum_is =
-      let w = now.offsets (k - 1) b (omega (arith, step.0)) (omega (arith, step.0)) fits in
-      let nw = lanes.north (k - 1) b (omega (arith, step.0)) (omega (arith, step.1)) fits in
-      let n = lanes.north k b (omega (arith, step.0)) (omega (arith, step.1)) fits in
-      let ne = lanes.north (k + 1) b (omega (arith, step.0)) (omega (arith, step.1)) fits in
-      let west : column_at origin (k - 1) b ≡ x - 1 = omega (arith, step.0) in
-      let east : column_at origin (k + 1) b ≡ x + 1 = omega (arith, step.0, fits) in
-      rw (w, nw, n, ne, west, east, lanes.column, made) refl
+      let w = west_is in let nw = north_west_is in let n = north_is in
+      let ne = lanes.north (k + 1) b (omega (arith, step.1)) fits (omega (arith, left)) (omega (arith, left, right)) in
+      let east : column_at origin (k + 1) b ≡ x + 1 = omega (arith, left) in
+      rw (w, nw, n, ne, before, east, lanes.column, made) refl
 
   reduced_is : (r : Bool) → f.reduced ≡ r → (s b).predictor.reduced ≡ r
   reduced_is r e = ap (λ (m : Predictor). m.reduced) made ∙ sym lanes.reduced ∙ e
@@ -207,11 +217,7 @@ module _ {q : ℕ} {f : Form} {p : Params} {s : ℕ → Settings} {d : Image} {f
       | inl r ↦ absurd (let from : first_of f.reduced ≡ 0 = ap first_of r in omega (arith, from, h))
       | inr r ↦
           (let from : first_of f.reduced ≡ 3 = ap first_of r in let low : index < 3 = omega (arith, from, h) in
-          let w = now.offsets (k - 1) b (omega (arith, step.0)) (omega (arith, step.0)) fits in
-          let nw = lanes.north (k - 1) b (omega (arith, step.0)) (omega (arith, step.1)) fits in
-          let n = lanes.north k b (omega (arith, step.0)) (omega (arith, step.1)) fits in
-          let before : column_at origin (k - 1) b ≡ x - 1 = omega (arith, step.0) in
-          direction_is index low (rw (sum_is, n) at north) (rw (sum_is, w, before) at west) (rw (sum_is, nw, before) at north_west)
+          direction_is index low (rw (sum_is, north_is) at north) (rw (sum_is, west_is, before) at west) (rw (sum_is, north_west_is, before) at north_west)
           ∙ sym (direction_at (s b).predictor d z y x index (reduced_is false r) low
           ∙ ap (λ (us : List ℤ). get_or us index (pos 0)) (directions_told (s b).predictor d lanes.cube z y x there lanes.row.0 left right)))
     ]
@@ -289,7 +295,7 @@ module _ {q : ℕ} {f : Form} {p : Params} {s : ℕ → Settings} {d : Image} {f
     later = omega (arith, left)
 
     first_step : AreStepsThere (s b) d f.step.omega f.step.bits f.step.exponent y x
-    first_step = lanes.steps b k fits step.0 step.1
+    first_step = lanes.steps b k fits (omega (arith, right))
 
     ws_within : AllWithin (2 ^ ((s b).predictor.omega + 2)) ws
     ws_within = subst (λ (n : ℕ). AllWithin (2 ^ (n + 2)) ws) first_step.omega_is within
@@ -309,14 +315,14 @@ module _ {q : ℕ} {f : Form} {p : Params} {s : ℕ → Settings} {d : Image} {f
     -- the residual there is that of the sample by this prediction
     number_told : mapped d.kind (scaled_by_difference d.kind part whole) (sample_at d z y x) ≡ mapped_residual p d z t
     number_told =
-        let at = now.weights_at b fits in
+        let at = now.weights_at b mine (omega (arith, right)) in
         residual_by p (s b).predictor d z t y x (take (s b).count ws) at.predictor after_start refl there.column at.weights _
         (ap (λ v. mapped d.kind v (sample_at d z y x)) (sym scaled))
 
     offset_is : place numbers' k b ≡ pos (number_at d z y x)
     offset_is =
         let told = sum_told (s b).predictor d lanes.cube z y x there lanes.row.0 left right in
-        stepped.number b fits ∙ ap (offset_by f.greatest part (sum_at f.column numbers above k b)) (now.residuals k b (omega arith) step.1 fits)
+        stepped.number b fits ∙ ap (offset_by f.greatest part (sum_at f.column numbers above k b)) (now.residuals k b (omega arith) step.1 fits left right)
         ∙ offset_found d z y x f.greatest part (sum_at f.column numbers above k b) whole (mapped_residual p d z t) lanes.cube there lanes.greatest
         (rw sum_is (sym told)) number_told
 
@@ -326,7 +332,7 @@ module _ {q : ℕ} {f : Form} {p : Params} {s : ℕ → Settings} {d : Image} {f
 
     weights_next : take (s b).count (weights_of q b weights') ≡ weight_vector p d z (t + 1)
     weights_next =
-        let at = now.weights_at b fits in
+        let at = now.weights_at b mine (omega (arith, right)) in
         let next = lane_next q b (s b) d y x 1 0 (replicate 8 central ∷ []) pairs lane_is (omega arith) later ws ws_long ws_within part part_is
         (weights_of q b weights') f.step.omega f.step.exponent (place own' k b) first_step.omega_is (rw one first_step.exponent_is)
         (rw (one, band) central_is) (stepped.updated b fits) in
@@ -335,28 +341,30 @@ module _ {q : ℕ} {f : Form} {p : Params} {s : ℕ → Settings} {d : Image} {f
 
 -- ---- one step more, in all lanes
 
-pub step_more : {q : ℕ} {f : Form} {p : Params} {s : ℕ → Settings} {d : Image} {first y origin last k : ℕ}
+pub step_more : {q : ℕ} {f : Form} {p : Params} {s : ℕ → Settings} {d : Image} {first y origin last n k : ℕ}
     {above lower numbers own weights numbers' own' weights' : List (List ℤ)} {pairs : List Pairs} → AreLanes q f p s d first y origin last above lower
-    → (8 ≤ k) × (k < last) → IsStepped q f k above lower numbers own weights pairs numbers' own' weights' → length weights ≡ 9
+    → (8 ≤ k) × (k < last) → (n ≤ 8) × (n + 7 ≤ origin + k) → IsStepped q f k above lower numbers own weights pairs numbers' own' weights' → length weights ≡ 9
     → ((b : ℕ) → b < 8 → AllWithin (2 ^ (f.step.omega + 2)) (weights_of q b weights))
-    → AreInStep q p s d first y origin last k numbers own weights → AreInStep q p s d first y origin last (k + 1) numbers' own' weights'
-step_more {q} {f} {p} {s} {d} {first} {y} {origin} {last} {k} {numbers = numbers} {own = own} {numbers' = numbers'} {own' = own'} lanes step stepped long within now = record {
-  offsets = λ i b low high fits. elim (cases_eq i k) [
-    | inl here ↦ rw here (offset_is lanes k step now b fits stepped f.previous_in long (within b fits))
-    | inr apart ↦ stepped.numbers_kept i b apart ∙ now.offsets i b low (omega (arith, high, apart)) fits
+    → AreInStep q p s d first y origin last n k numbers own weights → AreInStep q p s d first y origin last n (k + 1) numbers' own' weights'
+step_more {q} {f} {p} {s} {d} {first} {y} {origin} {last} {n} {k} {numbers = numbers} {own = own} {numbers' = numbers'} {own' = own'} lanes step begun stepped long within now = record {
+  offsets = λ i b low high mine left right. elim (cases_eq i k) [
+    | inl here ↦ rw here (offset_is lanes k step begun now b mine (rw here at right) stepped f.previous_in long (within b (omega (arith, mine, begun.0))))
+    | inr apart ↦ stepped.numbers_kept i b apart ∙ now.offsets i b low (omega (arith, high, apart)) mine left right
   ];
-  residuals = λ i b low high fits. stepped.numbers_kept i b (λ e. omega (arith, e, low)) ∙ now.residuals i b (omega (arith, low)) high fits;
-  centrals = λ i b low high fits. elim (cases_eq i k) [
-    | inl here ↦ rw here (central_is lanes k step now b fits stepped f.previous_in long (within b fits)
-        ∙ ap (λ (m : Predictor). central_difference m d (first + b) y (column_at origin k b)) (lanes.predictor b fits))
-    | inr apart ↦ stepped.own_kept i b apart ∙ now.centrals i b low (omega (arith, high, apart)) fits
+  residuals = λ i b low high fits left right. stepped.numbers_kept i b (λ e. omega (arith, e, low)) ∙ now.residuals i b (omega (arith, low)) high fits left right;
+  centrals = λ i b low high mine left right. elim (cases_eq i k) [
+    | inl here ↦ rw here (central_is lanes k step begun now b mine (rw here at right) stepped f.previous_in long (within b (omega (arith, mine, begun.0)))
+        ∙ ap (λ (m : Predictor). central_difference m d (first + b) y (column_at origin k b)) (lanes.predictor b (omega (arith, mine, begun.0))))
+    | inr apart ↦ stepped.own_kept i b apart ∙ now.centrals i b low (omega (arith, high, apart)) mine left right
   ];
-  weights_at = λ b fits. record {
-    predictor = (now.weights_at b fits).predictor;
-    weights = weights_next lanes k step now b fits stepped f.previous_in long (within b fits)
-        ∙ ap (weight_vector p d (first + b)) (next_time (y * d.shape.columns) b fits);
-  };
+  weights_at = λ b mine bound.
+      let next : column_at origin (k + 1) b ≡ column_at origin k b + 1 = omega (arith, mine, begun.1) in
+      let right : column_at origin k b + 1 < d.shape.columns = omega (arith, next, bound) in record {
+        predictor = (now.weights_at b mine (omega (arith, right))).predictor;
+        weights = weights_next lanes k step begun now b mine right stepped f.previous_in long (within b (omega (arith, mine, begun.0)))
+            ∙ ap (weight_vector p d (first + b)) (next_time (y * d.shape.columns) b next);
+      };
 }
   where
-    next_time : (row b : ℕ) → b < 8 → row + column_at origin k b + 1 ≡ row + column_at origin (k + 1) b
-    next_time row b fits = omega (arith, step.0, fits)
+    next_time : (row b : ℕ) → column_at origin (k + 1) b ≡ column_at origin k b + 1 → row + column_at origin k b + 1 ≡ row + column_at origin (k + 1) b
+    next_time row b next = omega (arith, next)

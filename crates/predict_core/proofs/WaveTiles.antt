@@ -10,6 +10,7 @@ use Rattle.cube_core.specs.Image.{Image, IsCube, IsPlace, sample_at}
 use Rattle.header_bits.specs.declared.params.Params.{Params}
 use Rattle.lanes.specs.Lanes.{place}
 use Rattle.band_lanes.specs.Rows.{weights_of}
+use Rattle.sample_prediction.specs.Chain.{AreWeightsAt}
 use Rattle.sample_prediction.specs.Differences.{central_difference}
 use Rattle.sample_prediction.specs.Predictor.{predictor_of, previous_bands, component_count}
 use Rattle.sample_prediction.specs.Prediction.{weight_vector}
@@ -22,7 +23,7 @@ use Rattle.predict_core.specs.Following.{PredictorState}
 use Rattle.predict_core.specs.GroupLanes.{HasWeights}
 use Rattle.predict_core.specs.Inversion.{IsInverting, IsBandInverted, AreAhead, band_at, number_at}
 use Rattle.predict_core.specs.Wave.{sum_by, sum_at}
-use Rattle.predict_core.specs.WaveLanes.{AreLanes, AreInStep, column_at}
+use Rattle.predict_core.specs.WaveLanes.{AreLanes, AreInStep, AreToBegin, column_at, first_column}
 use Rattle.predict_core.specs.WaveRows.{AreRowsOf}
 use Rattle.predict_core.specs.WaveTiles.{IsFormOf, StandAsWave}
 use Rattle.predict_core.proofs.WaveLanes.{central_told}
@@ -59,7 +60,7 @@ pub record IsBegun (q : ℕ) (f : Form) (c : Image) (bands : List PredictorState
   pub eight : first + 8 ≤ length bands
   pub row : (0 < y) × (y < c.shape.rows)
   pub steps : (8 ≤ last) × (last ≤ 63)
-  pub inside : origin + last < c.shape.columns
+  pub inside : origin + 2 ≤ c.shape.columns
   pub stand : StandAsWave bands first c.shape.columns y origin
   pub ahead : AreAhead bands first ((y + 1) * c.shape.columns)
   pub form : IsFormOf f (band_at bands first).predictor c y
@@ -127,20 +128,20 @@ module _ {q : ℕ} {f : Form} {c : Image} {bands : List PredictorState} {first y
       number_same z y x ((inv.each z (omega (arith, low, k.eight, inv.many))).done y x there (let a = k.ahead z low in omega (arith, a, line, fits)))
 
   -- and in these as far as each has come
-  done_here : (b x : ℕ) → b < 8 → x < column_at origin 8 b → number_at c (first + b) y x ≡ number_at d (first + b) y x
+  done_here : (b x : ℕ) → b < 8 → x < first_column origin b → number_at c (first + b) y x ≡ number_at d (first + b) y x
   done_here b x fits low =
-      let there : IsPlace c.shape (first + b) y x = record { band = rw shape (within b fits); row = k.row.1; column = omega (arith, low, k.inside, k.steps) } in
+      let there : IsPlace c.shape (first + b) y x = record { band = rw shape (within b fits); row = k.row.1; column = omega (arith, low, k.inside) } in
       number_same (first + b) y x ((band b fits).done y x there (let at = k.stand b fits in omega (arith, at, low)))
 
   -- the offsets of these bands, by their rows
   none : origin + 0 ≡ origin
   none = omega arith
 
-  own_number : (i b : ℕ) → i < 64 → b < 8 → b ≤ origin + i → column_at origin i b < c.shape.columns
+  own_number : (i b : ℕ) → i < 64 → b < 8 → 7 + b ≤ origin + i → column_at origin i b < c.shape.columns
       → place numbers i b ≡ pos (number_at c (first + b) y (column_at origin i b))
   own_number i b small fits low bound = let same : first + b - 0 ≡ first + b = omega arith in rw (none, same) at (k.numbers_is.numbers i b small fits (omega arith) (omega (arith, low)) (rw none bound))
 
-  above_number : (i b : ℕ) → i < 64 → b < 8 → b ≤ origin + i → column_at origin i b < c.shape.columns
+  above_number : (i b : ℕ) → i < 64 → b < 8 → 7 + b ≤ origin + i → column_at origin i b < c.shape.columns
       → place above i b ≡ pos (number_at d (first + b) (y - 1) (column_at origin i b))
   above_number i b small fits low bound =
       let same : first + b - 0 ≡ first + b = omega arith in
@@ -151,21 +152,22 @@ module _ {q : ℕ} {f : Form} {c : Image} {bands : List PredictorState} {first y
   place_of z x low fits = rw (← inv.alike.shape) (record { band = rw shape (omega (arith, low, k.eight, inv.many)); row = k.row.1; column = fits })
 
   -- the central differences of the bands themselves before step 8
-  own_central : (i b : ℕ) → b < i → i < 8 → b < 8 → place own i b ≡ central_difference base.predictor d (first + b) y (column_at origin i b)
-  own_central i b low high fits =
+  own_central : (i b : ℕ) → b < i → i < 8 → b < 8 → 0 < column_at origin i b → column_at origin i b + 1 < c.shape.columns
+      → place own i b ≡ central_difference base.predictor d (first + b) y (column_at origin i b)
+  own_central i b low high fits left right =
       let x : ℕ = column_at origin i b in
-      let here = own_number i b (omega (arith, high)) fits (omega (arith, low)) (omega (arith, high, k.inside, k.steps))
-      ∙ ap (λ (n : ℕ). pos n) (done_here b x fits (omega (arith, high, low))) in
-      let west = own_number (i - 1) b (omega (arith, high)) fits (omega (arith, low)) (omega (arith, high, k.inside, k.steps))
-      ∙ ap (λ (n : ℕ). pos n) (done_here b (column_at origin (i - 1) b) fits (omega (arith, high, low))) in
-      let north_west = above_number (i - 1) b (omega (arith, high)) fits (omega (arith, low)) (omega (arith, high, k.inside, k.steps)) in
-      let north = above_number i b (omega (arith, high)) fits (omega (arith, low)) (omega (arith, high, k.inside, k.steps)) in
-      let north_east = above_number (i + 1) b (omega (arith, high)) fits (omega (arith, low)) (omega (arith, high, k.inside, k.steps)) in
-      let before : column_at origin (i - 1) b ≡ x - 1 = omega (arith, low) in let after : column_at origin (i + 1) b ≡ x + 1 = omega (arith, low) in
+      let before : column_at origin (i - 1) b ≡ x - 1 = omega (arith, low) in let after : column_at origin (i + 1) b ≡ x + 1 = omega (arith, left) in
+      let here = own_number i b (omega (arith, high)) fits (omega (arith, left)) (omega (arith, right))
+      ∙ ap (λ (n : ℕ). pos n) (done_here b x fits (omega (arith, high, left))) in
+      let west = own_number (i - 1) b (omega (arith, high)) fits (omega (arith, left, low)) (omega (arith, right, before))
+      ∙ ap (λ (n : ℕ). pos n) (done_here b (column_at origin (i - 1) b) fits (omega (arith, high, left))) in
+      let north_west = above_number (i - 1) b (omega (arith, high)) fits (omega (arith, left, low)) (omega (arith, right, before)) in
+      let north = above_number i b (omega (arith, high)) fits (omega (arith, left)) (omega (arith, right)) in
+      let north_east = above_number (i + 1) b (omega (arith, high)) fits (omega (arith, left)) (omega (arith, right, after)) in
       k.own_is i b (omega (arith, low)) high fits
       ∙ rw (here, west, north_west, north, north_east, before, after, k.form.column, ← k.made)
-      (sym (central_told base.predictor d inv.cube.cube (first + b) y x (place_of (first + b) x (omega (arith, fits)) (omega (arith, high, k.inside, k.steps)))
-      k.row.0 (omega (arith, low)) (omega (arith, high, k.inside, k.steps, columns))))
+      (sym (central_told base.predictor d inv.cube.cube (first + b) y x (place_of (first + b) x (omega (arith, fits)) (omega (arith, right)))
+      k.row.0 left (omega (arith, right, columns))))
 
   -- and those of the bands below
   module _ (i b : ℕ) (low : 1 ≤ i) (high : i < 63) (fits : b < 8) where
@@ -191,24 +193,24 @@ module _ {q : ℕ} {f : Form} {c : Image} {bands : List PredictorState} {first y
         nothing true = refl
         nothing false = refl
 
-    lower_some : 8 ≤ first + b → x + 1 < c.shape.columns → place lower i b ≡ central_difference base.predictor d (first + b - 8) y x
-    lower_some some right =
+    lower_some : 8 ≤ first + b → 0 < x → x + 1 < c.shape.columns → place lower i b ≡ central_difference base.predictor d (first + b - 8) y x
+    lower_some some left right =
         let z : ℕ = first + b - 8 in
-        let number = λ (j : ℕ) (h : j < 64) (l : column_at (origin + 8) j b < c.shape.columns). k.lower_numbers_is.numbers j b h fits some (omega (arith, fits)) l
+        let number = λ (j : ℕ) (h : j < 64) (m : 7 + b ≤ origin + 8 + j) (l : column_at (origin + 8) j b < c.shape.columns). k.lower_numbers_is.numbers j b h fits some m l
         ∙ ap (λ (n : ℕ). pos n) (done_below z (column_at (origin + 8) j b) (omega (arith, some, fits)) l) in
-        let number_above = λ (j : ℕ) (h : j < 64) (l : column_at (origin + 8) j b < c.shape.columns). k.lower_above_is.numbers j b h fits some (omega (arith, fits)) l
+        let number_above = λ (j : ℕ) (h : j < 64) (m : 7 + b ≤ origin + 8 + j) (l : column_at (origin + 8) j b < c.shape.columns). k.lower_above_is.numbers j b h fits some m l
         ∙ ap (λ (n : ℕ). pos n) (done_above z (column_at (origin + 8) j b) (omega (arith, some, fits)) l) in
-        let before : column_at (origin + 8) (i - 1) b ≡ x - 1 = omega (arith, low, fits) in
-        let after : column_at (origin + 8) (i + 1) b ≡ x + 1 = omega (arith, low, fits) in
-        let here = number i (omega (arith, high)) (omega (arith, right)) in
-        let west = number (i - 1) (omega (arith, high)) (omega (arith, right, before)) in
-        let north_west = number_above (i - 1) (omega (arith, high)) (omega (arith, right, before)) in
-        let north = number_above i (omega (arith, high)) (omega (arith, right)) in
-        let north_east = number_above (i + 1) (omega (arith, high)) (omega (arith, right, after)) in
+        let before : column_at (origin + 8) (i - 1) b ≡ x - 1 = omega (arith, low) in
+        let after : column_at (origin + 8) (i + 1) b ≡ x + 1 = omega (arith, left) in
+        let here = number i (omega (arith, high)) (omega (arith, left)) (omega (arith, right)) in
+        let west = number (i - 1) (omega (arith, high)) (omega (arith, left, low)) (omega (arith, right, before)) in
+        let north_west = number_above (i - 1) (omega (arith, high)) (omega (arith, left, low)) (omega (arith, right, before)) in
+        let north = number_above i (omega (arith, high)) (omega (arith, left)) (omega (arith, right)) in
+        let north_east = number_above (i + 1) (omega (arith, high)) (omega (arith, left)) (omega (arith, right, after)) in
         k.lower_is i b low high fits
         ∙ rw (here, west, north_west, north, north_east, before, after, k.form.column, ← k.made)
         (sym (central_told base.predictor d inv.cube.cube z y x (place_of z x (omega (arith, some, fits)) (omega (arith, right)))
-        k.row.0 (omega (arith, low, fits)) (omega (arith, right, columns))))
+        k.row.0 left (omega (arith, right, columns))))
 
   pub count_is : (b : ℕ) → b < 8 → component_count base.predictor (first + b) ≡ length (band_at bands (first + b)).weights
   count_is b fits = sym ((k.has b fits).long ∙ ap₂ component_count (same_made b fits) (band b fits).band)
@@ -216,11 +218,12 @@ module _ {q : ℕ} {f : Form} {c : Image} {bands : List PredictorState} {first y
   kind_is : d.kind ≡ base.range.kind
   kind_is = inv.cube.kind ∙ sym head.follows.made.kind ∙ sym k.of-kind
 
-  below_is : (i b : ℕ) → 1 ≤ i → i < last → b < 8 → column_at origin (i + 8) b + 1 < d.shape.columns
+  below_is : (i b : ℕ) → 1 ≤ i → i < last → b < 8 → 0 < column_at origin (i + 8) b → column_at origin (i + 8) b + 1 < d.shape.columns
       → place lower i b ≡ (if nat_le 8 (first + b) then central_difference base.predictor d (first + b - 8) y (column_at origin (i + 8) b) else pos 0)
-  below_is i b low high fits right = elim (cases_lt (first + b) 8) [
+  below_is i b low high fits left right = elim (cases_lt (first + b) 8) [
     | inl out ↦ lower_none i b low (omega (arith, high, k.steps)) fits out ∙ sym (test_no (first + b) _ _ out)
-    | inr some ↦ lower_some i b low (omega (arith, high, k.steps)) fits some (omega (arith, right, columns, column_is i b low (omega (arith, high, k.steps)) fits))
+    | inr some ↦ lower_some i b low (omega (arith, high, k.steps)) fits some (rw (← column_is i b low (omega (arith, high, k.steps)) fits) left)
+        (omega (arith, right, columns, column_is i b low (omega (arith, high, k.steps)) fits))
         ∙ ap (central_difference base.predictor d (first + b - 8) y) (sym (column_is i b low (omega (arith, high, k.steps)) fits))
         ∙ sym (test_yes (first + b) _ _ some)
   ]
@@ -241,7 +244,6 @@ module _ {q : ℕ} {f : Form} {c : Image} {bands : List PredictorState} {first y
   lanes_begun = record {
     cube = inv.cube.cube;
     row = (k.row.0, rw inv.alike.shape at k.row.1);
-    inside = omega (arith, k.inside, columns);
     most = k.steps.1;
     few = k.few;
     bands = λ b fits. (refl, rw inv.cube.shape (within b fits));
@@ -256,16 +258,16 @@ module _ {q : ℕ} {f : Form} {c : Image} {bands : List PredictorState} {first y
     column = k.form.column ∙ ap (λ (m : Predictor). m.column) (sym k.made);
     previous = k.form.previous ∙ ap (λ (m : Predictor). m.previous) (sym k.made);
     greatest = rw inv.alike.kind at k.form.greatest;
-    steps = λ b j fits low high. record {
+    steps = λ b j fits bound. record {
       omega_is = k.form.omega ∙ ap (λ (m : Predictor). m.omega) (sym k.made);
       bits_are = k.form.bits ∙ ap (λ (n : SampleKind). n.bits) (inv.alike.kind ∙ kind_is) ∙ sym base.range.bits_is;
-      exponent_is = exponent_is (column_at origin j b) (omega (arith, high, k.inside));
+      exponent_is = exponent_is (column_at origin j b) (omega (arith, bound, columns));
     };
-    north = λ i b low high fits. above_number i b (omega (arith, high, k.steps)) fits (omega (arith, low, fits)) (omega (arith, high, k.inside));
+    north = λ i b high fits left bound. above_number i b (omega (arith, high, k.steps)) fits left (omega (arith, bound, columns));
     below = below_is;
   }
 
-  coded_here : (b x : ℕ) → b < 8 → column_at origin 8 b ≤ x → x < c.shape.columns → number_at c (first + b) y x ≡ mapped_residual p d (first + b) (y * d.shape.columns + x)
+  coded_here : (b x : ℕ) → b < 8 → first_column origin b ≤ x → x < c.shape.columns → number_at c (first + b) y x ≡ mapped_residual p d (first + b) (y * d.shape.columns + x)
   coded_here b x fits low bound =
       let there : IsPlace c.shape (first + b) y x = record { band = rw shape (within b fits); row = k.row.1; column = bound } in
       let holds = (band b fits).coded y x there (let at = k.stand b fits in omega (arith, at, low)) in
@@ -275,19 +277,37 @@ module _ {q : ℕ} {f : Form} {c : Image} {bands : List PredictorState} {first y
       offset_back : (least : ℤ) (n : ℕ) → unsigned_abs ((least +ℤ pos n) -ℤ least) ≡ n
       offset_back least n = omega (arith, ints)
 
-  pub start_begun : AreInStep q p s d first y origin last 8 numbers own weights
+  -- each band's weights, in the rows that hold them
+  weights_there : (b : ℕ) → b < 8 → (rows : List (List ℤ)) → HasWeights q b (band_at bands (first + b)) rows
+      → AreWeightsAt p base.predictor d (first + b) (y * d.shape.columns + first_column origin b) (take (component_count base.predictor (first + b)) (weights_of q b rows))
+  weights_there b fits rows has =
+      let at = band b fits in
+      let enough : length (band_at bands (first + b)).weights ≤ 2 * q = rw (← count_is b fits) (enough_at (first + b)) in record {
+        predictor = predictor_is;
+        weights = ap (λ (n : ℕ). take n (weights_of q b rows)) (count_is b fits) ∙ has.used enough ∙ at.follows.weights
+            ∙ ap₂ (weight_vector p d) at.band (k.stand b fits ∙ ap (λ (n : ℕ). y * n + first_column origin b) columns);
+      }
+
+  -- before step 8, in the lanes that have begun
+  pub start_begun : AreInStep q p s d first y origin last (min 8 (origin + 1)) 8 numbers own weights
   start_begun = record {
-    offsets = λ i b low high fits. own_number i b (omega (arith, high)) fits (omega (arith, low, fits)) (omega (arith, high, k.inside, k.steps))
-        ∙ ap (λ (n : ℕ). pos n) (done_here b (column_at origin i b) fits (omega (arith, high, fits)));
-    residuals = λ i b low high fits. own_number i b (omega (arith, high, k.steps)) fits (omega (arith, low, fits)) (omega (arith, high, k.inside))
-        ∙ ap (λ (n : ℕ). pos n) (coded_here b (column_at origin i b) fits (omega (arith, low, fits)) (omega (arith, high, k.inside)));
-    centrals = λ i b low high fits. own_central i b low high fits;
-    weights_at = λ b fits.
-        let has = k.has b fits in let at = band b fits in
-        let enough : length (band_at bands (first + b)).weights ≤ 2 * q = rw (← count_is b fits) (enough_at (first + b)) in
-        record {
-          predictor = predictor_is;
-          weights = ap (λ (n : ℕ). take n (weights_of q b weights)) (count_is b fits) ∙ has.used enough ∙ at.follows.weights
-              ∙ ap₂ (weight_vector p d) at.band (k.stand b fits ∙ ap (λ (n : ℕ). y * n + column_at origin 8 b) columns);
-        };
+    offsets = λ i b low high mine left right. own_number i b (omega (arith, high)) (omega (arith, mine)) left (omega (arith, right, columns))
+        ∙ ap (λ (n : ℕ). pos n) (done_here b (column_at origin i b) (omega (arith, mine)) (omega (arith, high)));
+    residuals = λ i b low high fits left right. own_number i b (omega (arith, high, k.steps)) fits (omega (arith, left)) (omega (arith, right, columns))
+        ∙ ap (λ (n : ℕ). pos n) (coded_here b (column_at origin i b) fits (omega (arith, low, left)) (omega (arith, right, columns)));
+    centrals = λ i b low high mine left right. own_central i b low high (omega (arith, mine)) left (omega (arith, right, columns));
+    weights_at = λ b mine bound.
+        let fits : b < 8 = omega (arith, mine) in let column : column_at origin 8 b ≡ first_column origin b = omega (arith, mine) in
+        rw column (weights_there b fits weights (k.has b fits));
+  }
+
+  -- and in those that are to begin
+  pub to_begin : origin ≡ 0 → AreToBegin q p s d first y bands numbers
+  to_begin zero = record {
+    offset = λ b fits.
+        let column : column_at origin (7 + b) b ≡ 0 = omega (arith, zero) in
+        own_number (7 + b) b (omega (arith, fits)) fits (omega arith) (omega (arith, column, k.inside))
+        ∙ ap (λ (n : ℕ). pos n) (done_here b (column_at origin (7 + b) b) fits (omega (arith, column)) ∙ ap (number_at d (first + b) y) column);
+    weights_at = λ b fits rows has.
+        let column : first_column origin b ≡ 1 = omega (arith, zero) in rw column at (weights_there b fits rows has);
   }

@@ -5,14 +5,14 @@ use Rattle.lanes.specs.Lanes.{place}
 use Rattle.predict_core.specs.Inversion.{number_at}
 use Rattle.predict_core.specs.WaveLanes.{column_at}
 
--- a line has the numbers of a row from column origin - b on; each of its 64 numbers is one of the row, or 0
-pub record IsSkewed (row : List ℕ) (origin b : ℕ) (line : List ℤ) : Type 0 where
-  pub numbers : (i : ℕ) → i < 64 → b ≤ origin + i → column_at origin i b < length row → slice_index_or line i (pos 0) ≡ pos (slice_index row (column_at origin i b))
+-- a line has the numbers of a row from column origin - back on; each of its 64 numbers is one of the row, or 0
+pub record IsSkewed (row : List ℕ) (origin back : ℕ) (line : List ℤ) : Type 0 where
+  pub numbers : (i : ℕ) → i < 64 → back ≤ origin + i → origin + i - back < length row → slice_index_or line i (pos 0) ≡ pos (slice_index row (origin + i - back))
   pub each : (i : ℕ) → i < 64
       → (slice_index_or line i (pos 0) ≡ pos 0) ⊎ ((x : ℕ) × (x < length row) × (slice_index_or line i (pos 0) ≡ pos (slice_index row x)))
 
--- row i of 64 has in lane b the offset at column origin + below + i - b of row y of the band so many below band first + b, or 0 where there is no such band
+-- row i of 64 has in lane b the offset at column origin + below + i - 7 - b of row y of the band so many below band first + b, or 0 where there is no such band
 pub record AreRowsOf (c : Image) (first below y origin : ℕ) (rows : List (List ℤ)) : Type 0 where
-  pub numbers : (i b : ℕ) → i < 64 → b < 8 → below ≤ first + b → b ≤ origin + below + i → column_at (origin + below) i b < c.shape.columns
+  pub numbers : (i b : ℕ) → i < 64 → b < 8 → below ≤ first + b → 7 + b ≤ origin + below + i → column_at (origin + below) i b < c.shape.columns
       → place rows i b ≡ pos (number_at c (first + b - below) y (column_at (origin + below) i b))
   pub none : (i b : ℕ) → i < 64 → b < 8 → first + b < below → place rows i b ≡ pos 0

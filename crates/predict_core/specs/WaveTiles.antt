@@ -14,7 +14,7 @@ use Rattle.predict_core.specs.declared.wave.form.Form.{Form}
 use Rattle.predict_core.specs.Following.{PredictorState}
 use Rattle.predict_core.specs.GroupLanes.{IsNarrow}
 use Rattle.predict_core.specs.Inversion.{IsInverting, band_at, number_at}
-use Rattle.predict_core.specs.WaveLanes.{column_at}
+use Rattle.predict_core.specs.WaveLanes.{column_at, first_column, first_step}
 
 -- the form is that of a predictor in row y, where one exponent holds from end to end; lanes of 16 bits are exact for it
 pub record IsFormOf (f : Form) (m : Predictor) (c : Image) (y : ℕ) : Type 0 where
@@ -28,16 +28,16 @@ pub record IsFormOf (f : Form) (m : Predictor) (c : Image) (y : ℕ) : Type 0 wh
   pub bits : f.step.bits ≡ c.kind.bits
   pub exponent : (x : ℕ) → x < c.shape.columns → f.step.exponent ≡ step_exponent m c.shape.columns c.kind.bits (y * c.shape.columns + x)
 
--- eight bands stand as a wavefront from step 8 on, each a column to the left of the one before
+-- eight bands stand as a wavefront does before step 8: each a column to the left of the one before, or at column 1
 abbrev pub StandAsWave : List PredictorState → ℕ → ℕ → ℕ → ℕ → Type 0
-StandAsWave bands first columns y origin = (b : ℕ) → b < 8 → (band_at bands (first + b)).t ≡ y * columns + column_at origin 8 b
+StandAsWave bands first columns y origin = (b : ℕ) → b < 8 → (band_at bands (first + b)).t ≡ y * columns + first_column origin b
 
--- the lines have the offsets of each band from step 8 to step `last`, and the rows of weights its weights there
+-- the lines have the offsets of each band from its first step to step `last`, and the rows of weights its weights there
 pub record AreFound (q : ℕ) (bands : List PredictorState) (c : Image) (first y origin last : ℕ) (lines weights : List (List ℤ)) : Type 0 where
   pub within : (b i : ℕ) → b < 8 → i < 64 → (pos 0 ≤ℤ place lines b i) × (place lines b i ≤ℤ (pos (2 ^ c.kind.bits) -ℤ pos 1))
   pub enough : (b : ℕ) → b < 8 → length (band_at bands (first + b)).weights ≤ 2 * q
   pub weights_in : (b : ℕ) → b < 8 → AllWithin (2 ^ ((band_at bands (first + b)).predictor.omega + 2)) (weights_of q b weights)
-  pub offsets : (p : Params) (d : Image) → IsInverting p c d bands → (b i : ℕ) → b < 8 → 8 ≤ i → i < last
+  pub offsets : (p : Params) (d : Image) → IsInverting p c d bands → (b i : ℕ) → b < 8 → first_step origin b ≤ i → i < last
       → place lines b i ≡ pos (number_at d (first + b) y (column_at origin i b))
   pub weights_at : (p : Params) (d : Image) → IsInverting p c d bands → (b : ℕ) → b < 8
       → take (length (band_at bands (first + b)).weights) (weights_of q b weights) ≡ weight_vector p d (first + b) (y * c.shape.columns + column_at origin last b)

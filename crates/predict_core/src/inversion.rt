@@ -90,7 +90,7 @@ fn invert_rows(
     }
 }
 
-/// Inverts row `y` of eight bands as a wavefront, but for both ends, where not all of them have a place at the same step.
+/// Inverts row `y` of eight bands as a wavefront, but for both ends.
 fn invert_wave(
     bands: &mut [Band],
     first: usize,
@@ -102,7 +102,7 @@ fn invert_wave(
     requires inverting { (p : Parameters) × (d : Image) × IsInverting p cube.old d bands.old }
     requires eight { first + 8 ≤ length bands.old }
     requires row { (0 < y) × (y < cube.old.shape.rows) }
-    requires columns { 8 ≤ cube.old.shape.columns }
+    requires columns { 16 ≤ cube.old.shape.columns }
     requires start { StandAt bands.old first (first + 8) (y * cube.old.shape.columns) }
     requires ahead { AreAhead bands.old first ((y + 1) * cube.old.shape.columns) }
     requires form { IsFormOf form (band_at bands.old first).predictor cube.old y }
@@ -117,12 +117,12 @@ fn invert_wave(
     end_wave(bands, first, cube, y, origin);
 }
 
-/// Inverts the first places of row `y` of eight bands, so that each has come a column less far than the one before.
+/// Inverts the first place of row `y` of eight bands.
 fn start_wave(bands: &mut [Band], first: usize, cube: &mut Cube, y: u32)
     requires inverting { (p : Parameters) × (d : Image) × IsInverting p cube.old d bands.old }
     requires eight { first + 8 ≤ length bands.old }
     requires row { y < cube.old.shape.rows }
-    requires columns { 8 ≤ cube.old.shape.columns }
+    requires columns { 16 ≤ cube.old.shape.columns }
     requires start { StandAt bands.old first (first + 8) (y * cube.old.shape.columns) }
     requires ahead { AreAhead bands.old first ((y + 1) * cube.old.shape.columns) }
     ensures inverted { (p : Parameters) (d : Image) → IsInverting p cube.old d bands.old → IsInverting p cube.new d bands.new }
@@ -132,16 +132,16 @@ fn start_wave(bands: &mut [Band], first: usize, cube: &mut Cube, y: u32)
     ensures others { AreKeptBeside bands.old bands.new first (first + 8) }
 {
     for b in 0..8usize {
-        invert_run(bands, first + b, cube, y, 0, 8 - b);
+        invert_run(bands, first + b, cube, y, 0, 1);
     }
 }
 
-/// Inverts the rest of row `y` of eight bands that have come as far as at step 8 of a wavefront.
+/// Inverts the rest of row `y` of eight bands that have come as far as before step 8 of a wavefront.
 fn end_wave(bands: &mut [Band], first: usize, cube: &mut Cube, y: u32, origin: usize)
     requires inverting { (p : Parameters) × (d : Image) × IsInverting p cube.old d bands.old }
     requires eight { first + 8 ≤ length bands.old }
     requires row { y < cube.old.shape.rows }
-    requires inside { origin + 8 ≤ cube.old.shape.columns }
+    requires inside { origin + 1 ≤ cube.old.shape.columns }
     requires stand { StandAsWave bands.old first cube.old.shape.columns y origin }
     requires ahead { AreAhead bands.old first ((y + 1) * cube.old.shape.columns) }
     ensures inverted { (p : Parameters) (d : Image) → IsInverting p cube.old d bands.old → IsInverting p cube.new d bands.new }
@@ -152,13 +152,13 @@ fn end_wave(bands: &mut [Band], first: usize, cube: &mut Cube, y: u32, origin: u
 {
     cube.prove_is_cube();
     for b in 0..8usize {
-        let x = (origin + 8 - b) as u32;
+        let x = (origin.saturating_sub(b) + 1) as u32;
         invert_rest(bands, first + b, cube, y, x);
     }
 }
 
-/// Inverts row `y` of eight bands, piece after piece, as far as all of them are inside of it, and returns the origin of the step that
-/// they have come to. It ends before where 16 bits don't hold their weights.
+/// Inverts row `y` of eight bands from column 1 on, piece after piece, until the first of them has come to its last column, and returns
+/// the origin of the step that they have come to. It ends before where 16 bits don't hold their weights.
 fn invert_tiles(
     bands: &mut [Band],
     first: usize,
@@ -170,22 +170,22 @@ fn invert_tiles(
     requires inverting { (p : Parameters) × (d : Image) × IsInverting p cube.old d bands.old }
     requires eight { first + 8 ≤ length bands.old }
     requires row { (0 < y) × (y < cube.old.shape.rows) }
-    requires columns { 8 ≤ cube.old.shape.columns }
+    requires columns { 16 ≤ cube.old.shape.columns }
     requires stand { StandAsWave bands.old first cube.old.shape.columns y 0 }
     requires ahead { AreAhead bands.old first ((y + 1) * cube.old.shape.columns) }
     requires form { IsFormOf form (band_at bands.old first).predictor cube.old y }
     ensures inverted { (p : Parameters) (d : Image) → IsInverting p cube.old d bands.old → IsInverting p cube.new d bands.new }
     ensures alike { AreAlike cube.old cube.new }
     ensures many { length bands.new ≡ length bands.old }
-    ensures inside { result + 8 ≤ cube.old.shape.columns }
+    ensures inside { result + 2 ≤ cube.old.shape.columns }
     ensures stand { StandAsWave bands.new first cube.old.shape.columns y result }
     ensures others { AreKeptBeside bands.old bands.new first (first + 8) }
 {
     cube.prove_is_cube();
     let columns = cube.shape().columns() as usize;
     let mut origin = 0;
-    while origin + 9 < columns {
-        let last = 63.min(columns - 1 - origin);
+    while origin + 2 < columns {
+        let last = 63.min(columns + 6 - origin);
         if !invert_by(bands, first, cube, y, origin, last, form, room) {
             return origin;
         }
@@ -209,14 +209,15 @@ fn invert_by(
     requires eight { first + 8 ≤ length bands.old }
     requires row { (0 < y) × (y < cube.old.shape.rows) }
     requires last { (8 ≤ last) × (last ≤ 63) }
-    requires inside { origin + last < cube.old.shape.columns }
+    requires begun { (origin ≡ 0 → 15 ≤ last) × (0 < origin → 7 ≤ origin) }
+    requires inside { (origin + 2 ≤ cube.old.shape.columns) × (origin + last ≤ cube.old.shape.columns + 6) }
     requires stand { StandAsWave bands.old first cube.old.shape.columns y origin }
     requires ahead { AreAhead bands.old first ((y + 1) * cube.old.shape.columns) }
     requires form { IsFormOf form (band_at bands.old first).predictor cube.old y }
     ensures inverted { (p : Parameters) (d : Image) → IsInverting p cube.old d bands.old → IsInverting p cube.new d bands.new }
     ensures alike { AreAlike cube.old cube.new }
     ensures many { length bands.new ≡ length bands.old }
-    ensures moved { result ≡ true → (b : ℕ) → b < 8 → (band_at bands.new (first + b)).t ≡ (band_at bands.old (first + b)).t + (last - 8) }
+    ensures moved { result ≡ true → StandAsWave bands.new first cube.old.shape.columns y (origin + (last - 8)) }
     ensures kept { result ≡ false → bands.new ≡ bands.old }
     ensures others { AreKeptBeside bands.old bands.new first (first + 8) }
 {

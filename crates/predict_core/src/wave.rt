@@ -3,6 +3,7 @@
 //! A sample waits for those of the previous bands at its column, and for the one to its west. So eight bands can go side by side if each
 //! has come one column less far than the band below it.
 
+pub(crate) mod begin;
 pub(crate) mod centrals;
 pub(crate) mod components;
 pub(crate) mod finish;

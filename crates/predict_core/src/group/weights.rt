@@ -30,7 +30,11 @@ pub(crate) fn fill_weights<const Q: usize>(
 }
 
 /// Writes the weights of band `b`.
-fn put_band<const Q: usize>(band: &Band, b: usize, rows: &mut [[i16; 16]; MOST_PAIRS]) -> bool
+pub(crate) fn put_band<const Q: usize>(
+    band: &Band,
+    b: usize,
+    rows: &mut [[i16; 16]; MOST_PAIRS],
+) -> bool
     requires few { Q ≤ 9 }
     requires lane { b < 8 }
     ensures held { result ≡ true → HasWeights Q b band.now rows.new }

@@ -10,6 +10,7 @@ ghost use Rattle.sample_prediction.specs.Prediction.{weight_vector};
 ghost use Rattle.predict_core.specs.Following.{MovesBy};
 ghost use Rattle.predict_core.specs.Inversion.{IsInverting, AreKeptBeside, band_at, number_at};
 ghost use Rattle.predict_core.specs.Precedence.{AreAlike};
+ghost use Rattle.predict_core.specs.WaveLanes.{column_at, first_column, first_step};
 
 use crate::band::Band;
 use crate::group::weights::take_weights;
@@ -17,55 +18,59 @@ use crate::wave::room::WaveRoom;
 use band_lanes::pairs::MOST_PAIRS;
 use cube_core::cube::Cube;
 
-/// Writes the offsets that lane `b` found from step 8 to step `last` into the cube, as samples of band `z` from row `y`, column `x` on,
-/// and advances the band.
+/// Writes the offsets that lane `b` found from its first step to step `last` into row `y` of the cube, as samples of band `first + b`, and
+/// advances the band.
 pub(crate) fn finish_lane<const Q: usize>(
     bands: &mut [Band],
-    z: usize,
+    first: usize,
     b: usize,
     cube: &mut Cube,
     y: u32,
-    x: u32,
+    origin: usize,
     last: usize,
     room: &WaveRoom,
 )
     requires pairs { Q ≤ 9 }
     requires inverting { (p : Parameters) × (d : Image) × IsInverting p cube.old d bands.old }
-    requires band { z < length bands.old }
+    requires band { first + b < length bands.old }
     requires lane { b < 8 }
-    requires last { (8 ≤ last) × (last ≤ 63) }
-    requires place { IsPlace cube.old.shape z y x }
-    requires inside { x + (last - 8) ≤ cube.old.shape.columns }
-    requires next { (band_at bands.old z).t ≡ y * cube.old.shape.columns + x }
+    requires last { (first_step origin b ≤ last) × (last ≤ 63) }
+    requires place { IsPlace cube.old.shape (first + b) y (first_column origin b) }
+    requires inside { first_column origin b + (last - first_step origin b) ≤ cube.old.shape.columns }
+    requires next { (band_at bands.old (first + b)).t ≡ y * cube.old.shape.columns + first_column origin b }
     requires offsets_in { (i : ℕ) → i < 64 → (pos 0 ≤ℤ place room.now.lines b i) × (place room.now.lines b i ≤ℤ (pos (2 ^ cube.old.kind.bits) -ℤ pos 1)) }
-    requires enough { length (band_at bands.old z).weights ≤ 2 * Q }
-    requires weights_in { AllWithin (2 ^ ((band_at bands.old z).predictor.omega + 2)) (weights_of Q b room.now.weights) }
+    requires enough { length (band_at bands.old (first + b)).weights ≤ 2 * Q }
+    requires weights_in { AllWithin (2 ^ ((band_at bands.old (first + b)).predictor.omega + 2)) (weights_of Q b room.now.weights) }
     ensures inverted { (p : Parameters) (d : Image) → IsInverting p cube.old d bands.old
-        → ((i : ℕ) → 8 ≤ i → i < last → place room.now.lines b i ≡ pos (number_at d z y (x + (i - 8))))
-        → take (length (band_at bands.old z).weights) (weights_of Q b room.now.weights)
-        ≡ weight_vector p d z (y * cube.old.shape.columns + x + (last - 8))
+        → ((i : ℕ) → first_step origin b ≤ i → i < last → place room.now.lines b i ≡ pos (number_at d (first + b) y (column_at origin i b)))
+        → take (length (band_at bands.old (first + b)).weights) (weights_of Q b room.now.weights)
+        ≡ weight_vector p d (first + b) (y * cube.old.shape.columns + column_at origin last b)
         → IsInverting p cube.new d bands.new }
     ensures alike { AreAlike cube.old cube.new }
     ensures many { length bands.new ≡ length bands.old }
-    ensures moved { MovesBy (last - 8) (band_at bands.old z) (band_at bands.new z) }
-    ensures others { AreKeptBeside bands.old bands.new z (z + 1) }
+    ensures moved { MovesBy (last - first_step origin b) (band_at bands.old (first + b)) (band_at bands.new (first + b)) }
+    ensures others { AreKeptBeside bands.old bands.new (first + b) (first + b + 1) }
 {
-    let count = last - 8;
+    cube.prove_is_cube();
+    let from = 8 + b.saturating_sub(origin);
+    let x = (origin.saturating_sub(b) + 1) as u32;
+    let count = last - from;
     let mut run = [0u16; 64];
-    copy_run(&room.lines[b], count, &mut run);
+    copy_run(&room.lines[b], from, count, &mut run);
+    let z = first + b;
     cube.set_run(z as u32, y, x, &run[..count]);
     let band = &mut bands[z];
     advance::<Q>(band, &room.weights, b, count);
 }
 
-/// Writes the numbers of a line from place 8 on.
-fn copy_run(line: &[i16; 64], count: usize, run: &mut [u16; 64])
-    requires count { count ≤ 56 }
+/// Writes the numbers of a line from place `from` on.
+fn copy_run(line: &[i16; 64], from: usize, count: usize, run: &mut [u16; 64])
+    requires inside { from + count ≤ 64 }
     requires line { (i : ℕ) → i < 64 → pos 0 ≤ℤ slice_index_or line.now i (pos 0) }
-    ensures { (i : ℕ) → i < count → slice_index_or line.now (8 + i) (pos 0) ≡ pos (slice_index run.new i) }
+    ensures { (i : ℕ) → i < count → slice_index_or line.now (from + i) (pos 0) ≡ pos (slice_index run.new i) }
 {
     for i in 0..count {
-        run[i] = line[8 + i] as u16;
+        run[i] = line[from + i] as u16;
     }
 }
 

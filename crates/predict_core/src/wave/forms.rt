@@ -27,7 +27,7 @@ const MOST_PREVIOUS: u32 = 7;
 pub(crate) fn form_of(band: &Band, y: u32) -> Option<Form>
     requires { y < band.now.shape.rows }
     ensures form { IfSome result (λ f. (c : Image) → c.shape ≡ band.now.shape → c.kind ≡ band.now.kind → IsFormOf f band.now.predictor c y) }
-    ensures columns { IfSome result (λ f. 8 ≤ band.now.shape.columns) }
+    ensures columns { IfSome result (λ f. 16 ≤ band.now.shape.columns) }
 {
     let settings = &band.settings;
     let predictor = &settings.predictor;

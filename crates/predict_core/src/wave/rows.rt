@@ -12,7 +12,7 @@ use crate::group::band_lines::clear_line;
 use cube_core::cube::Cube;
 use lanes::turn::turn;
 
-/// Writes 64 rows of eight lanes: in row i, lane b has the offset at column `origin + below + i - b` of row `y` of the band that is
+/// Writes 64 rows of eight lanes: in row i, lane b has the offset at column `origin + below + i - 7 - b` of row `y` of the band that is
 /// `below` bands below band `first + b`, or 0 where there is no such band or column.
 pub(crate) fn fill_rows(
     cube: &Cube,
@@ -54,7 +54,7 @@ fn fill_line(
     requires row { y < cube.now.shape.rows }
     requires origin { origin ≤ 65536 }
     requires bits { cube.now.kind.bits ≤ 12 }
-    ensures numbers { (i : ℕ) → i < 64 → below ≤ z → b ≤ origin + below + i → column_at (origin + below) i b < cube.now.shape.columns
+    ensures numbers { (i : ℕ) → i < 64 → below ≤ z → 7 + b ≤ origin + below + i → column_at (origin + below) i b < cube.now.shape.columns
         → place lines.new b i ≡ pos (number_at cube.now (z - below) y (column_at (origin + below) i b)) }
     ensures none { (i : ℕ) → i < 64 → z < below → place lines.new b i ≡ pos 0 }
     ensures within { (i : ℕ) → i < 64 → (pos 0 ≤ℤ place lines.new b i) × (place lines.new b i ≤ℤ (pos (2 ^ cube.now.kind.bits) -ℤ pos 1)) }
@@ -65,20 +65,20 @@ fn fill_line(
         clear_line(&mut lines[b]);
     } else {
         let row = cube.row((z - below) as u32, y);
-        skew(row, origin + below, b, &mut lines[b]);
+        skew(row, origin + below, 7 + b, &mut lines[b]);
     }
 }
 
-/// Writes a row from column `origin - b` on, with zeros where there is no column.
-fn skew(row: &[u16], origin: usize, b: usize, line: &mut [i16; 64])
-    requires lane { b < 8 }
+/// Writes a row from column `origin - back` on, with zeros where there is no column.
+fn skew(row: &[u16], origin: usize, back: usize, line: &mut [i16; 64])
+    requires back { back < 15 }
     requires origin { origin ≤ 65544 }
     requires columns { length row.now ≤ 65536 }
     requires small { (x : ℕ) → x < length row.now → slice_index row.now x < 2 ^ 12 }
-    ensures { IsSkewed row.now origin b line.new }
+    ensures { IsSkewed row.now origin back line.new }
 {
-    let first = b.saturating_sub(origin);
-    let from = origin + first - b;
+    let first = back.saturating_sub(origin);
+    let from = origin + first - back;
     let count = (64 - first).min(row.len().saturating_sub(from));
     clear_line(line);
     for i in 0..count {

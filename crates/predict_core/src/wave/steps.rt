@@ -13,13 +13,23 @@ use crate::wave::form::Form;
 use crate::wave::step::invert_place;
 use band_lanes::pairs::{MOST_PAIRS, Pairs};
 
-/// Inverts the prediction of eight bands from step 8 to step `last`, as `invert_place` does at each.
+/// Some successive steps of a wavefront.
+#[derive(Clone, Copy)]
+pub(crate) struct Stretch {
+    pub from: usize,
+    /// The step after the last.
+    pub to: usize,
+    pub ghost inside: { (8 ≤ from) × (from ≤ to) × (to ≤ 63) },
+}
+
+/// Inverts the prediction of eight bands at some steps, as `invert_place` does at each.
 ///
-/// The weights are kept in a copy of their own, so that the compiler can keep them in registers.
+/// The first `n` lanes are those that have begun. The weights are kept in a copy of their own, so that the compiler can keep them in
+/// registers.
 #[inline(never)]
 pub(crate) fn invert_places<const Q: usize, const RAISED: bool, const LIMITED: bool>(
     form: Form,
-    last: usize,
+    stretch: Stretch,
     above: &[[i16; 8]; 64],
     lower: &[[i16; 8]; 64],
     numbers: &mut [[i16; 8]; 64],
@@ -28,7 +38,6 @@ pub(crate) fn invert_places<const Q: usize, const RAISED: bool, const LIMITED: b
     weights: &mut [[i16; 16]; MOST_PAIRS],
 )
     requires few { Q ≤ 9 }
-    requires last { (8 ≤ last) × (last ≤ 63) }
     requires above_in { AreOffsetRows form.greatest above.now }
     requires numbers_in { AreOffsetRows form.greatest numbers.old }
     requires lower_in { AreRowsBelow (2 ^ (form.step.bits + 2)) lower.now }
@@ -38,13 +47,15 @@ pub(crate) fn invert_places<const Q: usize, const RAISED: bool, const LIMITED: b
     requires whole { LIMITED ≡ false → form.step.omega ≡ 13 }
     requires weights_in { (b : ℕ) → b < 8 → AllWithin (2 ^ (form.step.omega + 2)) (weights_of Q b weights.old) }
     ensures numbers_in { AreOffsetRows form.greatest numbers.new }
+    ensures own_in { AreRowsBelow (2 ^ (form.step.bits + 2)) own.new }
     ensures weights_in { (b : ℕ) → b < 8 → AllWithin (2 ^ (form.step.omega + 2)) (weights_of Q b weights.new) }
-    ensures inverted { (p : Parameters) (s : ℕ → Constants) (d : Image) (first y origin : ℕ) → AreLanes Q form p s d first y origin last above.now lower.now
-        → AreInStep Q p s d first y origin last 8 numbers.old own.old weights.old
-        → AreInStep Q p s d first y origin last last numbers.new own.new weights.new }
+    ensures inverted { (p : Parameters) (s : ℕ → Constants) (d : Image) (first y origin last n : ℕ) → AreLanes Q form p s d first y origin last above.now lower.now
+        → stretch.to ≤ last → (n ≤ 8) × (n + 7 ≤ origin + stretch.from)
+        → AreInStep Q p s d first y origin last n stretch.from numbers.old own.old weights.old
+        → AreInStep Q p s d first y origin last n stretch.to numbers.new own.new weights.new }
 {
     let mut working = *weights;
-    for k in 8..last {
+    for k in stretch.from..stretch.to {
         invert_place::<Q, RAISED, LIMITED>(
             form,
             k,

@@ -1,34 +1,28 @@
 //! A piece of a row of eight bands, inverted as a wavefront.
 
-ghost use Rattle.std.specs.Prelude.{◌≡◌, ◌+◌, ◌-◌, ◌*◌, ◌^◌, ◌<◌, ◌≤◌, ℕ, true, false, pos, negsuc, ◌≤ℤ◌, length};
+ghost use Rattle.std.specs.Prelude.{◌≡◌, ◌+◌, ◌-◌, ◌*◌, ◌<◌, ◌≤◌, ℕ, true, false, length};
 ghost use Rattle.cube_core.specs.Image.{Image};
 ghost use Rattle.header_bits.specs.declared.params.Params.{Params as Parameters};
-ghost use Rattle.band_lanes.specs.Rows.{weights_of};
-ghost use Rattle.sample_prediction.specs.Bounds.{AllWithin};
-ghost use Rattle.predict_core.specs.declared.settings.Settings.{Settings as Constants};
 ghost use Rattle.predict_core.specs.Inversion.{IsInverting, AreAhead, AreKeptBeside, band_at};
 ghost use Rattle.predict_core.specs.Precedence.{AreAlike};
-ghost use Rattle.predict_core.specs.Wave.{AreOffsetRows, AreRowsBelow};
-ghost use Rattle.predict_core.specs.WaveLanes.{AreLanes, AreInStep};
 ghost use Rattle.predict_core.specs.WaveTiles.{AreFound, IsFormOf, StandAsWave};
 
 use crate::band::Band;
 use crate::group::weights::fill_weights;
 use crate::settings::Settings;
+use crate::wave::begin::invert_steps;
 use crate::wave::centrals::fill_centrals;
 use crate::wave::finish::finish_lane;
 use crate::wave::form::Form;
 use crate::wave::room::WaveRoom;
 use crate::wave::rows::fill_rows;
-use crate::wave::steps::invert_places;
-use band_lanes::pairs::{MOST_PAIRS, Pairs};
 use cube_core::cube::Cube;
 use lanes::turn::turn_back;
 
-/// Inverts row `y` of eight bands from step 8 to step `last`, at which band `first + b` is at columns `origin + 8 - b` and
-/// `origin + last - b`, and returns whether 16 bits hold their weights. If not, nothing is inverted.
+/// Inverts row `y` of eight bands from step 8 to step `last`, and returns whether 16 bits hold their weights. If not, nothing is inverted.
 ///
-/// The bands below them have come to the end of the row. `Q` pairs hold the components of each band.
+/// At step k band `first + b` is at column `origin + k - 7 - b`. Where `origin` is 0 no band has come further than column 1, so each
+/// begins a step after the one below it. The bands below them have come to the end of the row. `Q` pairs hold the components of each band.
 pub(crate) fn invert_tile<const Q: usize>(
     bands: &mut [Band],
     first: usize,
@@ -44,14 +38,15 @@ pub(crate) fn invert_tile<const Q: usize>(
     requires eight { first + 8 ≤ length bands.old }
     requires row { (0 < y) × (y < cube.old.shape.rows) }
     requires last { (8 ≤ last) × (last ≤ 63) }
-    requires inside { origin + last < cube.old.shape.columns }
+    requires begun { (origin ≡ 0 → 15 ≤ last) × (0 < origin → 7 ≤ origin) }
+    requires inside { (origin + 2 ≤ cube.old.shape.columns) × (origin + last ≤ cube.old.shape.columns + 6) }
     requires stand { StandAsWave bands.old first cube.old.shape.columns y origin }
     requires ahead { AreAhead bands.old first ((y + 1) * cube.old.shape.columns) }
     requires form { IsFormOf form (band_at bands.old first).predictor cube.old y }
     ensures inverted { (p : Parameters) (d : Image) → IsInverting p cube.old d bands.old → IsInverting p cube.new d bands.new }
     ensures alike { AreAlike cube.old cube.new }
     ensures many { length bands.new ≡ length bands.old }
-    ensures moved { result ≡ true → (b : ℕ) → b < 8 → (band_at bands.new (first + b)).t ≡ (band_at bands.old (first + b)).t + (last - 8) }
+    ensures moved { result ≡ true → StandAsWave bands.new first cube.old.shape.columns y (origin + (last - 8)) }
     ensures kept { result ≡ false → bands.new ≡ bands.old }
     ensures others { AreKeptBeside bands.old bands.new first (first + 8) }
 {
@@ -79,7 +74,8 @@ fn invert_lanes<const Q: usize>(
     requires eight { first + 8 ≤ length bands.now }
     requires row { (0 < y) × (y < cube.now.shape.rows) }
     requires last { (8 ≤ last) × (last ≤ 63) }
-    requires inside { origin + last < cube.now.shape.columns }
+    requires begun { (origin ≡ 0 → 15 ≤ last) × (0 < origin → 7 ≤ origin) }
+    requires inside { (origin + 2 ≤ cube.now.shape.columns) × (origin + last ≤ cube.now.shape.columns + 6) }
     requires stand { StandAsWave bands.now first cube.now.shape.columns y origin }
     requires ahead { AreAhead bands.now first ((y + 1) * cube.now.shape.columns) }
     requires form { IsFormOf form (band_at bands.now first).predictor cube.now y }
@@ -135,16 +131,9 @@ fn invert_lanes<const Q: usize>(
         &mut room.lower,
     );
     fill_centrals(form, 8, &room.numbers, &room.above, &mut room.own);
-    invert_by::<Q>(
-        form,
-        last,
-        &room.above,
-        &room.lower,
-        &mut room.numbers,
-        &mut room.own,
-        &mut room.pairs,
-        &mut room.weights,
-    );
+    if !invert_steps::<Q>(bands, first, origin, last, form, room) {
+        return false;
+    }
     turn_back(&room.numbers, &mut room.lines);
     true
 }
@@ -156,44 +145,6 @@ fn constants_of(band: &Band) -> Settings
     ensures columns { result.columns ≡ band.now.shape.columns }
 {
     band.settings
-}
-
-/// `invert_places` by the form that a step asks for.
-#[inline(always)]
-fn invert_by<const Q: usize>(
-    form: Form,
-    last: usize,
-    above: &[[i16; 8]; 64],
-    lower: &[[i16; 8]; 64],
-    numbers: &mut [[i16; 8]; 64],
-    own: &mut [[i16; 8]; 64],
-    pairs: &mut [Pairs; MOST_PAIRS],
-    weights: &mut [[i16; 16]; MOST_PAIRS],
-)
-    requires few { Q ≤ 9 }
-    requires last { (8 ≤ last) × (last ≤ 63) }
-    requires above_in { AreOffsetRows form.greatest above.now }
-    requires numbers_in { AreOffsetRows form.greatest numbers.old }
-    requires lower_in { AreRowsBelow (2 ^ (form.step.bits + 2)) lower.now }
-    requires own_in { AreRowsBelow (2 ^ (form.step.bits + 2)) own.old }
-    requires weights_in { (b : ℕ) → b < 8 → AllWithin (2 ^ (form.step.omega + 2)) (weights_of Q b weights.old) }
-    ensures numbers_in { AreOffsetRows form.greatest numbers.new }
-    ensures weights_in { (b : ℕ) → b < 8 → AllWithin (2 ^ (form.step.omega + 2)) (weights_of Q b weights.new) }
-    ensures inverted { (p : Parameters) (s : ℕ → Constants) (d : Image) (first y origin : ℕ) → AreLanes Q form p s d first y origin last above.now lower.now
-        → AreInStep Q p s d first y origin last 8 numbers.old own.old weights.old
-        → AreInStep Q p s d first y origin last last numbers.new own.new weights.new }
-{
-    if form.step.exponent < 0 {
-        if form.step.omega < 13 {
-            invert_places::<Q, true, true>(form, last, above, lower, numbers, own, pairs, weights);
-        } else {
-            invert_places::<Q, true, false>(form, last, above, lower, numbers, own, pairs, weights);
-        }
-    } else if form.step.omega < 13 {
-        invert_places::<Q, false, true>(form, last, above, lower, numbers, own, pairs, weights);
-    } else {
-        invert_places::<Q, false, false>(form, last, above, lower, numbers, own, pairs, weights);
-    }
 }
 
 /// Writes what was found of each of eight bands into the cube, and advances the bands.
@@ -211,19 +162,19 @@ fn finish_lanes<const Q: usize>(
     requires eight { first + 8 ≤ length bands.old }
     requires row { y < cube.old.shape.rows }
     requires last { (8 ≤ last) × (last ≤ 63) }
-    requires inside { origin + last < cube.old.shape.columns }
+    requires begun { (origin ≡ 0 → 15 ≤ last) × (0 < origin → 7 ≤ origin) }
+    requires inside { (origin + 2 ≤ cube.old.shape.columns) × (origin + last ≤ cube.old.shape.columns + 6) }
     requires stand { StandAsWave bands.old first cube.old.shape.columns y origin }
     requires enough { (b : ℕ) → b < 8 → length (band_at bands.old (first + b)).weights ≤ 2 * Q }
     requires found { AreFound Q bands.old cube.old first y origin last room.now.lines room.now.weights }
     ensures inverted { (p : Parameters) (d : Image) → IsInverting p cube.old d bands.old → IsInverting p cube.new d bands.new }
     ensures alike { AreAlike cube.old cube.new }
     ensures many { length bands.new ≡ length bands.old }
-    ensures moved { (b : ℕ) → b < 8 → (band_at bands.new (first + b)).t ≡ (band_at bands.old (first + b)).t + (last - 8) }
+    ensures moved { StandAsWave bands.new first cube.old.shape.columns y (origin + (last - 8)) }
     ensures others { AreKeptBeside bands.old bands.new first (first + 8) }
 {
     cube.prove_is_cube();
     for b in 0..8usize {
-        let x = (origin + 8 - b) as u32;
-        finish_lane::<Q>(bands, first + b, b, cube, y, x, last, room);
+        finish_lane::<Q>(bands, first, b, cube, y, origin, last, room);
     }
 }

@@ -1,4 +1,4 @@
-use Rattle.std.proofs.Common.{◌≡◌, ◌+◌, ◌-◌, ◌≤◌, length}
+use Rattle.std.proofs.Common.{◌≡◌, ◌+◌, ◌-◌, ◌<◌, ◌≤◌, length}
 use Rattle.cube_core.specs.Image.{Image}
 use Rattle.header_bits.specs.declared.params.Params.{Params}
 use Rattle.predict_core.specs.Inversion.{IsInverting, AreKeptBeside}
@@ -11,7 +11,8 @@ invariant-loop-origin l = record {
   inverted : (p : Params) (d : Image) → IsInverting p l.initial.cube d l.initial.bands → IsInverting p l.cube d l.bands;
   alike : AreAlike l.initial.cube l.cube;
   many : length l.bands ≡ length l.initial.bands;
-  inside : l.origin + 8 ≤ l.columns;
+  inside : l.origin + 2 ≤ l.columns;
+  begun : 0 < l.origin → 7 ≤ l.origin;
   stand : StandAsWave l.bands l.first l.columns l.y l.origin;
   others : AreKeptBeside l.initial.bands l.bands l.first (l.first + 8);
 }

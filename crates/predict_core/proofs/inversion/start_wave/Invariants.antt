@@ -1,4 +1,4 @@
-use Rattle.std.proofs.Common.{◌≡◌, ◌+◌, ◌-◌, ◌*◌, ◌<◌, ℕ, length}
+use Rattle.std.proofs.Common.{◌≡◌, ◌+◌, ◌*◌, ◌<◌, ℕ, length}
 use Rattle.cube_core.specs.Image.{Image}
 use Rattle.header_bits.specs.declared.params.Params.{Params}
 use Rattle.predict_core.specs.Inversion.{IsInverting, AreKeptBeside, band_at}
@@ -10,6 +10,6 @@ invariant-loop-b l = record {
   inverted : (p : Params) (d : Image) → IsInverting p l.initial.cube d l.initial.bands → IsInverting p l.cube d l.bands;
   alike : AreAlike l.initial.cube l.cube;
   many : length l.bands ≡ length l.initial.bands;
-  moved : (b : ℕ) → b < l.b → (band_at l.bands (l.first + b)).t ≡ l.y * l.initial.cube.shape.columns + (8 - b);
+  moved : (b : ℕ) → b < l.b → (band_at l.bands (l.first + b)).t ≡ l.y * l.initial.cube.shape.columns + 1;
   others : AreKeptBeside l.initial.bands l.bands l.first (l.first + l.b);
 }

@@ -4,5 +4,5 @@ use Rattle.predict_core.proofs.wave.finish.copy_run.Given as goal
 abbrev pub invariant-loop-i : goal.invariant-loop-i
 invariant-loop-i l = record {
   long : length l.run ≡ 64;
-  copied : (i : ℕ) → i < l.i → slice_index_or l.line (8 + i) (pos 0) ≡ pos (slice_index l.run i);
+  copied : (i : ℕ) → i < l.i → slice_index_or l.line (l.from + i) (pos 0) ≡ pos (slice_index l.run i);
 }

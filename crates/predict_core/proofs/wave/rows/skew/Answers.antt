@@ -1,7 +1,6 @@
 use Rattle.std.proofs.Common.{◌≡◌, ◌⊎◌, ◌∙◌, ◌+◌, ◌-◌, ◌<◌, ◌≤◌, ℕ, pos, length, get_or, inl, inr, arith, ap, sym}
 use Rattle.std.proofs.lemmas.Bool.{cases_lt}
 use Rattle.std.specs.List.{slice_index}
-use Rattle.predict_core.specs.WaveLanes.{column_at}
 use Rattle.predict_core.proofs.wave.rows.skew.Goals as goal
 use Rattle.predict_core.proofs.wave.rows.skew.Goals.{After-loop-i}
 
@@ -10,7 +9,7 @@ module _ (c : After-loop-i) where
   first = c.saturating_sub-first.result
 
   abbrev from : ℕ
-  from = c.args.origin + first - c.args.b
+  from = c.args.origin + first - c.args.back
 
   done : c.loop-i.i ≡ c.min-count.result
   done = omega (arith, c.loop-i-test.false, c.loop-i.auto.i-end)
@@ -25,7 +24,7 @@ pub returns : goal.returns
 returns c = record {
   numbers = λ i small before within.
       let low : first c ≤ i = omega (arith, c.saturating_sub-first.ensures, before) in
-      let column : from c + (i - first c) ≡ column_at c.args.origin i c.args.b = omega (arith, c.saturating_sub-first.ensures, before, low) in
+      let column : from c + (i - first c) ≡ c.args.origin + i - c.args.back = omega (arith, c.saturating_sub-first.ensures, before, low) in
       copied c i low (omega (arith, done c, c.min-count.ensures, c.saturating_sub.ensures, low, small, column, within))
       ∙ ap (λ (x : ℕ). pos (slice_index c.args.row.now x)) column;
   each = λ i small. elim (cases_lt i (first c)) [

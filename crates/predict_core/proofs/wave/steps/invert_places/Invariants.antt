@@ -1,4 +1,4 @@
-use Rattle.std.proofs.Common.{◌≡◌, ◌+◌, ◌^◌, ◌<◌, ℕ, length}
+use Rattle.std.proofs.Common.{◌≡◌, ◌+◌, ◌^◌, ◌<◌, ◌≤◌, ℕ, length}
 use Rattle.cube_core.specs.Image.{Image}
 use Rattle.header_bits.specs.declared.params.Params.{Params}
 use Rattle.band_lanes.specs.Rows.{weights_of}
@@ -14,7 +14,8 @@ invariant-loop-k g l = record {
   own_in : AreRowsBelow (2 ^ (l.form.step.bits + 2)) l.own;
   weights_in : (b : ℕ) → b < 8 → AllWithin (2 ^ (l.form.step.omega + 2)) (weights_of g.row.Q b l.working);
   long : length l.working ≡ 9;
-  inverted : (p : Params) (s : ℕ → Settings) (d : Image) (first y origin : ℕ) → AreLanes g.row.Q l.form p s d first y origin l.last l.above l.lower
-      → AreInStep g.row.Q p s d first y origin l.last 8 l.fn.numbers l.fn.own l.fn.weights
-      → AreInStep g.row.Q p s d first y origin l.last l.k l.numbers l.own l.working;
+  inverted : (p : Params) (s : ℕ → Settings) (d : Image) (first y origin last n : ℕ) → AreLanes g.row.Q l.form p s d first y origin last l.above l.lower
+      → l.fn.stretch.to ≤ last → (n ≤ 8) × (n + 7 ≤ origin + l.fn.stretch.from)
+      → AreInStep g.row.Q p s d first y origin last n l.fn.stretch.from l.fn.numbers l.fn.own l.fn.weights
+      → AreInStep g.row.Q p s d first y origin last n l.k l.numbers l.own l.working;
 }

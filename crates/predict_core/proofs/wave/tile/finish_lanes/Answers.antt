@@ -5,7 +5,7 @@ use Rattle.band_lanes.specs.Rows.{weights_of}
 use Rattle.sample_prediction.specs.Prediction.{weight_vector}
 use Rattle.predict_core.specs.Following.{PredictorState}
 use Rattle.predict_core.specs.Inversion.{band_at, number_at}
-use Rattle.predict_core.specs.WaveLanes.{column_at}
+use Rattle.predict_core.specs.WaveLanes.{column_at, first_column, first_step}
 use Rattle.predict_core.proofs.wave.tile.finish_lanes.Goals as goal
 
 pub loop-b-preserved : goal.loop-b-preserved
@@ -17,16 +17,10 @@ loop-b-preserved g c =
     let columns = ap (λ (s : Sizes). s.columns) kept.alike.shape in
     record {
       inverted = λ p d inv.
-          did.inverted p d (kept.inverted p d inv)
-          (λ i low high.
-          let column : c.args.origin + 8 - b + (i - 8) ≡ column_at c.args.origin i b = omega (arith, low, fits) in
-          c.requires.found.offsets p d inv b i fits low high ∙ ap (λ (x : ℕ). pos (number_at d z c.args.y x)) (sym column))
-          (let column : c.args.origin + 8 - b + (c.args.last - 8) ≡ column_at c.args.origin c.args.last b = omega (arith, fits, c.requires.last.0) in
-          let time : c.args.y * c.args.cube.now.shape.columns + column_at c.args.origin c.args.last b
-          ≡ c.args.y * c.loop-b.cube.shape.columns + (c.args.origin + 8 - b) + (c.args.last - 8) =
-          ap₂ (λ (m x : ℕ). c.args.y * m + x) columns (sym column) ∙ (omega arith) in
-          ap (λ (v : PredictorState). take (length v.weights) (weights_of g.row.Q b c.args.room.now.weights)) same
-          ∙ c.requires.found.weights_at p d inv b fits ∙ ap (weight_vector p d z) time);
+          did.inverted p d (kept.inverted p d inv) (λ i low high. c.requires.found.offsets p d inv b i fits low high)
+          (ap (λ (v : PredictorState). take (length v.weights) (weights_of g.row.Q b c.args.room.now.weights)) same
+          ∙ c.requires.found.weights_at p d inv b fits
+          ∙ ap (λ (m : ℕ). weight_vector p d z (c.args.y * m + column_at c.args.origin c.args.last b)) columns);
       alike = record { shape = kept.alike.shape ∙ did.alike.shape; kind = kept.alike.kind ∙ did.alike.kind };
       many = did.many ∙ kept.many;
       moved = λ k lt. elim (cases_eq k b) [

@@ -18,7 +18,7 @@ use Rattle.predict_core.specs.GroupRooms.{no_band}
 use Rattle.predict_core.specs.Inversion.{IsInverting, band_at}
 use Rattle.predict_core.specs.Wave.{AreOffsetRows}
 use Rattle.predict_core.specs.WaveLanes.{column_at}
-use Rattle.predict_core.proofs.WaveTiles.{IsBegun, lanes_begun, start_begun, constants_at, same_made, count_is, enough_at}
+use Rattle.predict_core.proofs.WaveTiles.{IsBegun, lanes_begun, start_begun, to_begin, constants_at, same_made, count_is, enough_at}
 use Rattle.predict_core.proofs.wave.tile.invert_lanes.Given as given
 use Rattle.predict_core.proofs.wave.tile.invert_lanes.Goals as goal
 use Rattle.predict_core.proofs.wave.tile.invert_lanes.Goals.{After-fill_centrals-2}
@@ -56,7 +56,7 @@ module _ (g : given.Over) (c : After-fill_centrals-2 g) where
         eight = c.requires.eight;
         row = c.requires.row;
         steps = c.requires.last;
-        inside = c.requires.inside;
+        inside = c.requires.inside.0;
         stand = c.requires.stand;
         ahead = c.requires.ahead;
         form = c.requires.form;
@@ -88,32 +88,39 @@ pub fill_centrals-requires-2-clause-above_in : goal.fill_centrals-requires-2-cla
 fill_centrals-requires-2-clause-above_in g c =
     subst (λ n. AreOffsetRows n c.fill_rows-2.new.rows) (greatest_is c.args.form _ c.requires.form.bits) c.fill_rows-2.ensures.within
 
-pub invert_by-requires-clause-above_in : goal.invert_by-requires-clause-above_in
-invert_by-requires-clause-above_in g c =
+pub invert_steps-requires-clause-above_in : goal.invert_steps-requires-clause-above_in
+invert_steps-requires-clause-above_in g c =
     subst (λ n. AreOffsetRows n c.fill_rows-2.new.rows) (greatest_is c.args.form _ c.requires.form.bits) c.fill_rows-2.ensures.within
 
-pub invert_by-requires-clause-numbers_in : goal.invert_by-requires-clause-numbers_in
-invert_by-requires-clause-numbers_in g c =
+pub invert_steps-requires-clause-numbers_in : goal.invert_steps-requires-clause-numbers_in
+invert_steps-requires-clause-numbers_in g c =
     subst (λ n. AreOffsetRows n c.fill_rows.new.rows) (greatest_is c.args.form _ c.requires.form.bits) c.fill_rows.ensures.within
 
-pub invert_by-requires-clause-weights_in : goal.invert_by-requires-clause-weights_in
-invert_by-requires-clause-weights_in g c = weights_small g (goal.at.invert_by-requires-clause-weights_in g c).After-fill_centrals-2
+pub invert_steps-requires-clause-omega : goal.invert_steps-requires-clause-omega
+invert_steps-requires-clause-omega g c = omega_same g (goal.at.invert_steps-requires-clause-omega g c).After-fill_centrals-2
+
+pub invert_steps-requires-clause-weights_in : goal.invert_steps-requires-clause-weights_in
+invert_steps-requires-clause-weights_in g c = weights_small g (goal.at.invert_steps-requires-clause-weights_in g c).After-fill_centrals-2
 
 pub returns : goal.returns
 returns g c said =
     let e = (goal.at.returns g c).After-fill_centrals-2 in
-    let did = c.invert_by.ensures in record {
-      within = λ b i fits small. rw (c.turn_back.ensures i b small fits, greatest_is c.args.form _ c.requires.form.bits) (did.numbers_in i b small fits);
+    let done = c.if-not-invert_steps.false in
+    let did = c.invert_steps.ensures in
+    let found = λ (p : Params) (d : Image) (inv : IsInverting p c.args.cube.now d c.args.bands.now).
+    did.inverted done p (λ b. constants_at c.constants_of-constants.result (c.args.first + b)) d c.args.y c.args.last (lanes_begun (begun g e) inv) (omega arith) (to_begin (begun g e) inv)
+    (start_begun (begun g e) inv) in record {
+      within = λ b i fits small. rw (c.turn_back.ensures i b small fits, greatest_is c.args.form _ c.requires.form.bits) (did.numbers_in done i b small fits);
       enough = λ b fits. rw (← count_is (begun g e) c.requires.inverting.2 b fits) (enough_at (begun g e) c.requires.inverting.2 (c.args.first + b));
-      weights_in = λ b fits. subst (λ (n : ℕ). AllWithin (2 ^ (n + 2)) (weights_of g.row.Q b c.invert_by.new.weights)) (omega_same g e b fits) (did.weights_in b fits);
+      weights_in = λ b fits. subst (λ (n : ℕ). AllWithin (2 ^ (n + 2)) (weights_of g.row.Q b c.invert_steps.new.room.weights)) (omega_same g e b fits)
+          (did.weights_in done b fits);
       offsets = λ p d inv b i fits low high.
+          let columns = ap (λ (s : Sizes). s.columns) inv.alike.shape in
           c.turn_back.ensures i b (omega (arith, high, c.requires.last)) fits
-          ∙ (did.inverted p (λ b. constants_at c.constants_of-constants.result (c.args.first + b)) d c.args.first c.args.y c.args.origin (lanes_begun (begun g e) inv)
-          (start_begun (begun g e) inv)).offsets i b (omega (arith, low)) high fits;
+          ∙ (found p d inv).offsets i b (omega (arith, low)) high fits (omega (arith, low)) (omega (arith, high, c.requires.inside, columns));
       weights_at = λ p d inv b fits.
           let columns = ap (λ (s : Sizes). s.columns) inv.alike.shape in
-          ap (λ (n : ℕ). take n (weights_of g.row.Q b c.invert_by.new.weights)) (sym (count_is (begun g e) inv b fits))
-          ∙ ((did.inverted p (λ b. constants_at c.constants_of-constants.result (c.args.first + b)) d c.args.first c.args.y c.args.origin (lanes_begun (begun g e) inv)
-          (start_begun (begun g e) inv)).weights_at b fits).weights
+          ap (λ (n : ℕ). take n (weights_of g.row.Q b c.invert_steps.new.room.weights)) (sym (count_is (begun g e) inv b fits))
+          ∙ ((found p d inv).weights_at b fits (omega (arith, c.requires.inside, columns))).weights
           ∙ ap (λ (n : ℕ). weight_vector p d (c.args.first + b) (c.args.y * n + column_at c.args.origin c.args.last b)) (sym columns);
     }
