@@ -1,7 +1,9 @@
 -- The words of eight values of a block, side by side in lanes.
-use Rattle.std.proofs.Common.{◌≡◌, ℕ, zero, suc, ◌+◌, ◌/◌, ◌^◌, ◌<◌, ◌≤◌, Bool, List, ◌++◌, length, drop, get_or, refl, sym, ap, ◌∙◌, append_assoc, arith, drop-cons}
+use Rattle.std.proofs.Common.{◌≡◌, ℕ, zero, suc, ◌+◌, ◌*◌, ◌/◌, ◌^◌, ◌<◌, ◌≤◌, Bool, List, ◌++◌, length, drop, get_or, refl, sym, ap, ◌∙◌, append_assoc, arith, drop-cons}
+use Rattle.std.proofs.lemmas.List.{length-append}
 use Rattle.std.specs.List.{flat_map}
 use Rattle.header_bits.specs.Bits.{bits_of, fundamental}
+use Rattle.header_bits.proofs.Numbers.{length-bits_of}
 use Rattle.word_lanes.specs.EightWords.{texts}
 use Rattle.block_adaptive.specs.Options.{quotient_codes, low_groups}
 
@@ -19,6 +21,13 @@ module _ (f : ℕ → List Bool) (text : ℕ → List Bool) (i : ℕ) (block : L
       ∙ ap (λ (bits : List Bool). f (get_or block (i + j) 0) ++ bits) (rw (last, next) at rest)
       ∙ sym (append_assoc (f (get_or block (i + j) 0)) (texts text (suc j) n) (flat_map f (drop (i + j + suc n) block)))
       ∙ ap (λ (bits : List Bool). (bits ++ texts text (suc j) n) ++ flat_map f (drop (i + j + suc n) block)) (sym one)
+
+-- texts of one length
+pub equal_length : (k : ℕ) (f : ℕ → ℕ) → (n i : ℕ) → length (texts (λ j. bits_of k (f j)) i n) ≡ n * k
+equal_length k f zero i = omega arith
+equal_length k f (suc n) i =
+    let next : suc n * k ≡ k + n * k = grind arith in
+    omega (arith, length-append (bits_of k (f i)) (texts (λ j. bits_of k (f j)) (suc i) n), length-bits_of k (f i), equal_length k f n (suc i), next)
 
 module _ (text : ℕ → List Bool) (k i : ℕ) (block : List ℕ) where
   pub quotients_of_eight : ((m : ℕ) → m < 8 → text m ≡ fundamental (get_or block (i + m) 0 / 2 ^ k)) → i + 8 ≤ length block

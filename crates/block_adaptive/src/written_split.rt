@@ -1,7 +1,7 @@
 //! The bits of a block under split-sample, of eight values at a time.
 
 ghost use Rattle.std.specs.Prelude.{◌≡◌, ◌+◌, ◌/◌, ◌%◌, ◌^◌, ◌<◌, ◌≤◌, ℕ, IsTrue, length};
-ghost use Rattle.header_bits.specs.Bits.{bits_of, fundamental};
+ghost use Rattle.header_bits.specs.Bits.{fundamental};
 ghost use Rattle.lanes.specs.Lanes.{number};
 ghost use Rattle.word_lanes.specs.EightWords.{AreShort, word_text};
 ghost use Rattle.block_adaptive.specs.Options.{quotient_codes, low_groups};
@@ -12,7 +12,7 @@ use crate::gathering::{append_fundamental, quotient_word};
 use header_bits::bit_writer::BitWriter;
 use lanes::{eight, lines, masks};
 use std::simd::prelude::*;
-use word_lanes::eight_words::{EightWords, push_eight};
+use word_lanes::eight_words::{EightWords, push_eight, push_equal_eight};
 
 /// Appends the fundamental sequences of a block's values without their k lowest bits.
 ///
@@ -38,7 +38,7 @@ pub(crate) fn append_quotients(writer: BitWriter, k: u32, block: &[u16]) -> BitW
     writer
 }
 
-/// Appends the k lowest bits of each value of a block, of which k are at most 14.
+/// Appends the k lowest bits of each value of a block, of eight values at a time.
 #[inline(always)]
 pub(crate) fn append_low_eights(writer: BitWriter, k: u32, block: &[u16]) -> BitWriter
     requires k { k ≤ 14 }
@@ -49,7 +49,8 @@ pub(crate) fn append_low_eights(writer: BitWriter, k: u32, block: &[u16]) -> Bit
     let mut writer = writer;
     let mut first = 0;
     while first < block.len() {
-        writer = push_eight(writer, lows_of(k, lines::numbers_at(block, first)));
+        let lows = lows_of(k, lines::numbers_at(block, first));
+        writer = push_equal_eight(writer, lows, k);
         first += 8;
     }
     writer
@@ -79,16 +80,11 @@ fn sequences_of(zeros: u16x8) -> EightWords
 
 /// Returns the k lowest bits of each of eight values.
 #[inline(always)]
-fn lows_of(k: u32, values: u16x8) -> EightWords
+fn lows_of(k: u32, values: u16x8) -> u16x8
     requires k { k ≤ 14 }
-    ensures short { AreShort result }
-    ensures text { (j : ℕ) → j < 8 → word_text result j ≡ bits_of k (number values j) }
+    ensures { (j : ℕ) → j < 8 → number result j ≡ number values j % 2 ^ k }
 {
-    let bits = eight::rests(values, u16x8::splat(1 << k));
-    EightWords {
-        bits: bits.to_array(),
-        lengths: [k as u16; 8],
-    }
+    eight::rests(values, u16x8::splat(1 << k))
 }
 
 /// Appends the fundamental sequences of eight values without their k lowest bits, some of which have more than 14 bits.

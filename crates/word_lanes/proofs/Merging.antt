@@ -39,6 +39,17 @@ merged most a n b m before power product behind result length few low high first
     let e : result ≡ a * 2 ^ m + b = plus (rw (p, second) (omega (arith, fits, whole))) ∙ rw (p, second) refl in
     record { below = rw (e, len) fits; text = rw (e, len) (bits_of-join n m a b high) }
 
+-- words of one length, lane by lane
+pub equal_merged : (n most count : ℕ) (bits before product behind result : List ℕ) → n + n ≤ most → ((k : ℕ) → k < 2 * count → number bits k < 2 ^ n)
+    → ((k : ℕ) → k < count → number before k ≡ number bits (2 * k))
+    → ((k : ℕ) → k < count → number before k * 2 ^ n < 2 ^ most → number product k ≡ number before k * 2 ^ n)
+    → ((k : ℕ) → k < count → number behind k ≡ number bits (2 * k + 1))
+    → ((k : ℕ) → k < count → number product k + number behind k < 2 ^ most → number result k ≡ number product k + number behind k)
+    → (k : ℕ) → k < count → IsMerged (number bits (2 * k)) n (number bits (2 * k + 1)) n (number result k) (n + n)
+equal_merged n most count bits before product behind result few below first times second plus k lt =
+    merged most _ n _ n (number before k) (2 ^ n) (number product k) (number behind k) (number result k) (n + n) few (below (2 * k) (omega (arith, lt)))
+    (below (2 * k + 1) (omega (arith, lt))) (first k lt) refl (times k lt) (second k lt) (plus k lt) refl
+
 -- the same, lane by lane
 pub lanes_merged : (half most count : ℕ) (bits lengths before power product behind result before_lengths behind_lengths result_lengths : List ℕ) → half + half ≤ most → half + half < 2 ^ most
     → AreWords half (2 * count) bits lengths

@@ -1,6 +1,7 @@
 //! Eight words side by side in lanes, merged and appended.
 
-ghost use Rattle.std.specs.Prelude.{◌≡◌, ◌+◌, ◌≤◌, ◌++◌, length};
+ghost use Rattle.std.specs.Prelude.{◌≡◌, ◌+◌, ◌*◌, ◌^◌, ◌<◌, ◌≤◌, ◌++◌, ℕ, length};
+ghost use Rattle.header_bits.specs.Bits.{bits_of};
 ghost use Rattle.lanes.specs.Lanes.{number};
 ghost use Rattle.word_lanes.specs.EightWords.{AreShort, AreWords, ArePairs, text_at, texts, word_text};
 
@@ -25,6 +26,30 @@ pub fn push_eight(writer: BitWriter, words: EightWords) -> BitWriter
     ensures most { length (texts (word_text words) 0 8) ≤ 112 }
 {
     push_two(writer, quads_of(pairs_of(words)))
+}
+
+/// Appends eight words of the same length, at most 14 bits, the first one first, for which the writer has room.
+#[inline(always)]
+pub fn push_equal_eight(writer: BitWriter, bits: u16x8, length: u32) -> BitWriter
+    requires few { length ≤ 14 }
+    requires below { (j : ℕ) → j < 8 → number bits j < 2 ^ length }
+    requires room { 8 * length ≤ writer.room }
+    ensures text { result.bits ≡ writer.bits ++ texts (λ j. bits_of length (number bits j)) 0 8 }
+    ensures room { writer.room ≡ result.room + 8 * length }
+{
+    let pairs = unsigned::sum(
+        raised(unsigned::evens(bits), length),
+        unsigned::odds(bits),
+    );
+    let quads = unsigned::long_sum(
+        long_raised(unsigned::long_evens(pairs), length + length),
+        unsigned::long_odds(pairs),
+    );
+    let words = Quads {
+        bits: quads.to_array(),
+        lengths: [u64::from(4 * length); 2],
+    };
+    push_two(writer, words)
 }
 
 /// Appends eight words of at most 48 bits, one after another, for which the writer has room.
@@ -94,6 +119,24 @@ fn quads_of(words: Pairs) -> Quads
         bits: bits.to_array(),
         lengths: lengths.to_array(),
     }
+}
+
+/// Returns each number times two to `by`, exact wherever that fits in 32 bits.
+#[inline(always)]
+fn raised(a: u32x4, by: u32) -> u32x4
+    requires { by < 32 }
+    ensures { (k : ℕ) → k < 4 → number a k * 2 ^ by < 2 ^ 32 → number result k ≡ number a k * 2 ^ by }
+{
+    a << u32x4::splat(by)
+}
+
+/// Returns each number times two to `by`, exact wherever that fits in 64 bits.
+#[inline(always)]
+fn long_raised(a: u64x2, by: u32) -> u64x2
+    requires { by < 64 }
+    ensures { (k : ℕ) → k < 2 → number a k * 2 ^ by < 2 ^ 64 → number result k ≡ number a k * 2 ^ by }
+{
+    a << u64x2::splat(u64::from(by))
 }
 
 /// Appends two words, which mostly fit into one push.
