@@ -1,10 +1,7 @@
 -- Eight residuals of a column that are read at once.
-use Rattle.std.proofs.Common.{◌≡◌, ◌+◌, ◌-◌, ◌*◌, ◌/◌, ◌%◌, ◌^◌, ◌<◌, ◌≤◌, ℕ, zero, suc, Bool, List, length, take, get_or, set, refl, sym, ap, ◌∙◌, inl, inr, arith}
-use Rattle.std.proofs.lemmas.Bool.{cases_lt, ne_eqb}
-use Rattle.std.proofs.lemmas.List.{set-get_or}
-use Rattle.std.proofs.lemmas.Nat.{mul-le, pow-add, pow_pos}
-use Rattle.std.proofs.Math.Nat.{mod-eq_of_lt, mod-lt}
-use Rattle.std.proofs.Math.Pow.{pow_mono}
+use Rattle.std.proofs.Common.{◌≡◌, ◌+◌, ◌^◌, ◌<◌, ◌≤◌, ℕ, zero, suc, Bool, List, length, take, get_or, set, refl, sym, ap, ◌∙◌, inl, inr, arith, subst}
+use Rattle.std.proofs.lemmas.Bool.{cases_eq, ne_eqb}
+use Rattle.std.proofs.lemmas.List.{get_or-set_same, get_or-set_other, set-get_or}
 use Rattle.header_bits.specs.Bits.{Unread}
 use Rattle.lanes.specs.Lanes.{number}
 use Rattle.sample_adaptive.specs.declared.band_state.BandState.{BandState}
@@ -18,13 +15,21 @@ use Rattle.sample_adaptive.specs.Statistics.{next_statistics, code_parameter}
 use Rattle.sample_adaptive.specs.Taken.{CoderState, HasSettings, Reaches, counted, of_band, with_band}
 use Rattle.sample_adaptive.specs.Runs.{code_with}
 use Rattle.sample_adaptive.specs.Words.{IsCode}
-use Rattle.sample_adaptive.specs.WordParts.{InSteps, IsPartNext, IsPlainNext, IsWordNext, spelt_by}
+use Rattle.sample_adaptive.specs.WordParts.{InSteps, IsPartNext, IsWordNext, spelt_by}
 use Rattle.sample_adaptive.proofs.Columns.{code_seen}
 use Rattle.sample_adaptive.proofs.LaneStates.{lane_state, no_lanes, one_lane_more, lanes_count, later_lane}
 use Rattle.sample_adaptive.proofs.PlacesRead.{steps}
-use Rattle.sample_adaptive.proofs.ShortWords.{short_fits}
 use Rattle.sample_adaptive.proofs.Tracking.{settings_stay, statistics_at, statistics_count, column_set}
 use Rattle.sample_adaptive.proofs.WordParts.{other_steps}
+
+-- one number more of those that are put into a list
+pub one_put_more : (xs numbers : List ℕ) (i j : ℕ) → i + j < length xs → ((k : ℕ) → k < j → get_or xs (i + k) 0 ≡ number numbers k)
+    → (k : ℕ) → k < j + 1 → get_or (set xs (i + j) (number numbers j)) (i + k) 0 ≡ number numbers k
+one_put_more xs numbers i j inside before k lt =
+    elim (cases_eq k j) [
+      | inl e ↦ subst (λ k. get_or (set xs (i + j) (number numbers j)) (i + k) 0 ≡ number numbers k) (sym e) (get_or-set_same xs (i + j) (number numbers j) 0 inside)
+      | inr other ↦ get_or-set_other xs (i + j) (i + k) (number numbers j) 0 (λ e. other (omega (arith, e))) ∙ before k (omega (arith, lt, other))
+    ]
 
 -- the first residuals of a list are all that counts of it so far
 pub same_start : (zs ts : ℕ → ℕ) (index i : ℕ) (v w : CoderState) (first now : Unread) (residuals others : List ℕ) → take i others ≡ take i residuals
@@ -67,44 +72,17 @@ module _ (settings : CodeSettings) (z t index i counter : ℕ) (accumulators num
       (counts ∙ column_set v now (lane_state bands at counter accumulators now n) here) in
       rw (← next, order, one_lane_more bands at counter accumulators n) (rw whole at reached)
 
--- ---- a residual, from the parts of its word
-
--- a quotient that is fewer zeros than D bits have room for
-pub lawful_lane : (bits k zeros ending raised : ℕ) → k + 2 ≤ bits → bits ≤ 16 → raised ≡ 2 ^ k * 2 ^ (16 - bits) → zeros * raised / 65536 ≤ 0
-    → spelt_by k zeros ending < 2 ^ bits
-lawful_lane bits k zeros ending raised le few is none =
-    let size : bits - k + k ≡ bits = omega (arith, le) in
-    let all : bits + (16 - bits) ≡ 16 = omega (arith, few) in
-    let power : 2 ^ bits ≡ 2 ^ (bits - k) * 2 ^ k = ap (λ j. 2 ^ j) (sym size) ∙ pow-add 2 (bits - k) k in
-    let whole : 2 ^ bits * 2 ^ (16 - bits) ≡ 65536 = sym (pow-add 2 bits (16 - bits)) ∙ ap (λ j. 2 ^ j) all in
-    let below : zeros < 2 ^ (bits - k) = elim (cases_lt zeros (2 ^ (bits - k))) [
-      | inl lt ↦ lt
-      | inr ge ↦ (let p = mul-le (2 ^ (bits - k)) raised zeros raised ge (omega arith) in
-          let e : 2 ^ (bits - k) * raised ≡ 65536 = ap (λ n. 2 ^ (bits - k) * n) is ∙ grind arith ∙ ap (λ n. n * 2 ^ (16 - bits)) (sym power) ∙ whole in
-          absurd (omega (arith, p, e, none)))
-    ] in
-    short_fits zeros (2 ^ (bits - k)) k bits (ending % 2 ^ k) below (omega (arith, power)) (mod-lt ending (pow_pos k))
-
-pub raised_small : (bits : ℕ) → 2 ≤ bits → 1 * 2 ^ (16 - bits) % 65536 ≡ 2 ^ (16 - bits)
-raised_small bits least =
-    let few : 2 ^ (16 - bits) ≤ 2 ^ 14 = pow_mono {i = 16 - bits} {j = 14} (omega (arith, least)) in
-    let one : 1 * 2 ^ (16 - bits) ≡ 2 ^ (16 - bits) = omega arith in
-    rw one (mod-eq_of_lt (omega (arith, few)))
-
 -- ---- the words of eight bands, from their parts
 
-pub words_read : (settings : CodeSettings) (bands : List BandState) (at : ℕ) (ks shortest numbers : List ℕ) (parts : WordParts) (n : ℕ) (bits left : List Bool)
+pub words_read : (settings : CodeSettings) (bands : List BandState) (at : ℕ) (ks numbers : List ℕ) (parts : WordParts) (n : ℕ) (bits left : List Bool)
     → ((j : ℕ) → j < n → number ks j ≡ code_parameter settings.bits (state_of bands (at + j)).statistics) → ((j : ℕ) → j < n → number ks j + 2 ≤ settings.bits)
-    → ((j : ℕ) → j < n → number shortest j ≡ number ks j + 1)
     → ((j : ℕ) → j < n → (number parts.zeros j < settings.limit) × (spelt_by (number ks j) (number parts.zeros j) (number parts.endings j) < 2 ^ settings.bits))
     → ((j : ℕ) → j < n → number numbers j ≡ spelt_by (number ks j) (number parts.zeros j) (number parts.endings j))
-    → InSteps (IsPartNext shortest parts) n bits left → InSteps (IsWordNext settings bands at numbers) n bits left
-words_read settings bands at ks shortest numbers parts n bits left value few short lawful same h =
-    other_steps (IsPartNext shortest parts) (IsWordNext settings bands at numbers) n bits left
+    → InSteps (IsPartNext ks parts) n bits left → InSteps (IsWordNext settings bands at numbers) n bits left
+words_read settings bands at ks numbers parts n bits left value few lawful same h =
+    other_steps (IsPartNext ks parts) (IsWordNext settings bands at numbers) n bits left
     (λ j lt from to was count index.
-    let k_is : number shortest j - 1 ≡ number ks j = omega (arith, short j lt) in
     let code : Code = code_with settings (state_of bands (at + j)).statistics in
     let is_code : IsCode code = record { limit = settings.limit_in; k = omega (arith, few j lt, value j lt); bits = settings.bits_in.1 } in
-    let own : IsPlainNext (number ks j) (number parts.zeros j) (number parts.endings j) from to = rw k_is at was in
-    rw (same j lt) (own count index code is_code (sym (value j lt)) (lawful j lt).0 (lawful j lt).1))
+    rw (same j lt) (was count index code is_code (sym (value j lt)) (lawful j lt).0 (lawful j lt).1))
     h

@@ -1,6 +1,6 @@
 //! Eight code words of a column, read back at once: their code parameters are known before they are read.
 
-ghost use Rattle.std.specs.Prelude.{◌≡◌, ◌+◌, ◌*◌, ◌^◌, ◌<◌, ◌≤◌, ℕ, length, take, slice_index_or, IsTrue, IfSome};
+ghost use Rattle.std.specs.Prelude.{◌≡◌, ◌+◌, ◌*◌, ◌%◌, ◌^◌, ◌<◌, ◌≤◌, ℕ, length, take, slice_index_or, IsTrue, IfSome};
 ghost use Rattle.header_bits.specs.Bits.{Unread};
 ghost use Rattle.lanes.specs.Lanes.{number};
 ghost use Rattle.sample_adaptive.specs.BandStates.{AreBandStates, state_of, statistics_of};
@@ -60,7 +60,9 @@ fn put_numbers(residuals: &mut [u16], i: usize, numbers: &[u16; 8])
     ensures numbers { (j : ℕ) → j < 8 → slice_index_or residuals.new (i + j) 0 ≡ number numbers.now j }
     ensures long { length residuals.new ≡ length residuals.old }
 {
-    residuals[i..i + 8].copy_from_slice(numbers);
+    for j in 0..8usize {
+        residuals[i + j] = numbers[j];
+    }
 }
 
 /// The next residuals of eight bands, and the bands' statistics after them.
@@ -94,12 +96,11 @@ fn read_bands(
     }
     let accumulators = u32x8::from_array(before.accumulators);
     let k = parameters(settings.bits, counter, accumulators);
-    let shortest = eight::sum(k, u32x8::splat(1)).to_array();
     let mut parts = WordParts {
         zeros: [0; 8],
         endings: [0; 8],
     };
-    if !take_apart(settings.bits, &shortest, &mut parts, reader) {
+    if !take_apart(settings.bits, &k.to_array(), &mut parts, reader) {
         return None;
     }
     let numbers = residuals_of(settings, k, parts)?;
@@ -120,26 +121,23 @@ fn residuals_of(settings: CodeSettings, k: u32x8, parts: WordParts) -> Option<[u
         × (spelt_by (number k j) (number parts.zeros j) (number parts.endings j) < 2 ^ settings.bits)) }
     ensures numbers { IfSome result (λ numbers. (j : ℕ) → j < 8 → number numbers j ≡ spelt_by (number k j) (number parts.zeros j) (number parts.endings j)) }
 {
-    let powers = eight::short(eight::powers(k));
+    let powers = eight::powers(k);
     let zeros = u16x8::from_array(parts.zeros);
-    if !are_lawful(settings, zeros, powers) {
+    let low = rests(u32x8::from_array(parts.endings), powers);
+    let numbers = eight::sum(product(eight::long(zeros), powers), low);
+    if !are_lawful(settings, zeros, numbers) {
         return None;
     }
-    let low = eight::rests(u16x8::from_array(parts.endings), powers);
-    Some(eight::short_sum(product(zeros, powers), low).to_array())
+    Some(eight::short(numbers).to_array())
 }
 
-/// Returns whether each word begins with fewer zeros than an escape, and with so few that its residual has at most D bits. `powers` are 2^k.
-///
-/// A product with 2^(16 - D + k), of which the upper half counts, divides zeros by 2^(D - k).
+/// Returns whether each word begins with fewer zeros than an escape, and its residual has at most D bits.
 #[inline(always)]
-fn are_lawful(settings: CodeSettings, zeros: u16x8, powers: u16x8) -> bool
+fn are_lawful(settings: CodeSettings, zeros: u16x8, numbers: u32x8) -> bool
     ensures plain { IsTrue result → (j : ℕ) → j < 8 → number zeros j < settings.limit }
-    ensures few { IsTrue result → (j k ending : ℕ) → j < 8 → number powers j ≡ 2 ^ k → k + 2 ≤ settings.bits
-        → spelt_by k (number zeros j) ending < 2 ^ settings.bits }
+    ensures few { IsTrue result → (j : ℕ) → j < 8 → number numbers j < 2 ^ settings.bits }
 {
-    let raised = product(powers, u16x8::splat(1 << (16 - settings.bits)));
-    if !eight::are_within(eight::high_products(zeros, raised), u16x8::splat(0)) {
+    if !eight::are_all(eight::shifted(numbers, settings.bits), 0) {
         return false;
     }
     let escape = u16x8::splat(settings.limit as u16);
@@ -147,10 +145,18 @@ fn are_lawful(settings: CodeSettings, zeros: u16x8, powers: u16x8) -> bool
     eight::are_within(more, escape)
 }
 
-/// Returns the product of each two lanes, exact wherever it fits in 16 bits.
+/// Returns the product of each two lanes, exact wherever it fits in 32 bits.
 #[inline(always)]
-fn product(a: u16x8, b: u16x8) -> u16x8
-    ensures { (k : ℕ) → k < 8 → number a k * number b k < 2 ^ 16 → number result k ≡ number a k * number b k }
+fn product(a: u32x8, b: u32x8) -> u32x8
+    ensures { (k : ℕ) → k < 8 → number a k * number b k < 2 ^ 32 → number result k ≡ number a k * number b k }
 {
     a * b
+}
+
+/// Returns what each number leaves over when it is divided by a power of two.
+#[inline(always)]
+fn rests(a: u32x8, powers: u32x8) -> u32x8
+    ensures { (k n : ℕ) → k < 8 → number powers k ≡ 2 ^ n → number result k ≡ number a k % 2 ^ n }
+{
+    a & (powers - u32x8::splat(1))
 }

@@ -17,38 +17,38 @@ pub(crate) struct WordParts {
     /// How many zeros each begins with.
     pub zeros: [u16; 8],
     /// Numbers that end with the low bits of each.
-    pub endings: [u16; 8],
+    pub endings: [u32; 8],
 }
 
-/// Takes apart the eight words that come next, each by the length of its shortest form. Returns whether the words taken of each load lie in the bits that it sees:
-/// else nothing else holds.
+/// Takes apart the eight words that come next, by their code parameters. Returns whether the words taken of each load lie in the bits that it sees: else nothing else
+/// holds.
 ///
 /// Where D is above 12, words are so long that only two or three are taken of a load.
 #[inline(always)]
 pub(crate) fn take_apart(
     bits: u32,
-    shortest: &[u32; 8],
+    parameters: &[u32; 8],
     parts: &mut WordParts,
     reader: &mut BitReader,
 ) -> bool
-    requires shortest { (j : ℕ) → j < 8 → (1 ≤ number shortest.now j) × (number shortest.now j ≤ 15) }
-    ensures words { IsTrue result → InSteps (IsPartNext shortest.now parts.new) 8 reader.old.left reader.new.left }
+    requires parameters { (j : ℕ) → j < 8 → number parameters.now j ≤ 14 }
+    ensures words { IsTrue result → InSteps (IsPartNext parameters.now parts.new) 8 reader.old.left reader.new.left }
     ensures count { reader.new.count ≡ reader.old.count }
 {
     // Each number is known, so that the loops over the words are unrolled.
     if bits <= 12 {
-        if !take_few_apart(shortest, 0, 4, parts, reader) {
+        if !take_few_apart(parameters, 0, 4, parts, reader) {
             return false;
         }
-        return take_few_apart(shortest, 4, 4, parts, reader);
+        return take_few_apart(parameters, 4, 4, parts, reader);
     }
-    if !take_few_apart(shortest, 0, 3, parts, reader) {
+    if !take_few_apart(parameters, 0, 3, parts, reader) {
         return false;
     }
-    if !take_few_apart(shortest, 3, 3, parts, reader) {
+    if !take_few_apart(parameters, 3, 3, parts, reader) {
         return false;
     }
-    take_few_apart(shortest, 6, 2, parts, reader)
+    take_few_apart(parameters, 6, 2, parts, reader)
 }
 
 /// Takes apart a few words that come next, from lane `first` on. Returns whether they lie in the bits that are seen at once.
@@ -56,16 +56,16 @@ pub(crate) fn take_apart(
 /// No word is tested alone: lengths only add up, and so their sum at the end shows that each word was seen whole.
 #[inline(always)]
 fn take_few_apart(
-    shortest: &[u32; 8],
+    parameters: &[u32; 8],
     first: usize,
     few: usize,
     parts: &mut WordParts,
     reader: &mut BitReader,
 ) -> bool
-    requires shortest { (j : ℕ) → j < 8 → (1 ≤ number shortest.now j) × (number shortest.now j ≤ 15) }
+    requires parameters { (j : ℕ) → j < 8 → number parameters.now j ≤ 14 }
     requires within { first + few ≤ 8 }
-    ensures words { IsTrue result → (bits : List Bool) → InSteps (IsPartNext shortest.now parts.old) first bits reader.old.left
-        → InSteps (IsPartNext shortest.now parts.new) (first + few) bits reader.new.left }
+    ensures words { IsTrue result → (bits : List Bool) → InSteps (IsPartNext parameters.now parts.old) first bits reader.old.left
+        → InSteps (IsPartNext parameters.now parts.new) (first + few) bits reader.new.left }
     ensures count { reader.new.count ≡ reader.old.count }
 {
     let Some(word) = reader.peek() else {
@@ -74,7 +74,7 @@ fn take_few_apart(
     let mut bits = word;
     let mut length = 0;
     for j in first..first + few {
-        let part = first_part(bits, shortest[j]);
+        let part = first_part(bits, parameters[j]);
         parts.zeros[j] = part.zeros;
         parts.endings[j] = part.ending;
         bits = part.rest;
@@ -91,28 +91,30 @@ fn take_few_apart(
 #[derive(Clone, Copy)]
 struct Part {
     zeros: u16,
-    ending: u16,
+    ending: u32,
     length: u32,
     rest: u64,
 }
 
-/// Takes apart the word with which bits begin, by the length of its shortest form: a one and its low bits.
+/// Takes apart the word with which bits begin, by its code parameter.
+///
+/// The bits are turned until those after the word come first: then its low bits come last.
 #[inline(always)]
-fn first_part(bits: u64, shortest: u32) -> Part
-    requires { (1 ≤ shortest) × (shortest ≤ 15) }
+fn first_part(bits: u64, k: u32) -> Part
+    requires { k ≤ 14 }
     ensures word { (left : List Bool) (most : ℕ) → result.length ≤ most → most ≤ 57 → IsAhead most left bits
-        → IsPlainNext (shortest - 1) result.zeros result.ending left (drop result.length left) }
+        → IsPlainNext k result.zeros result.ending left (drop result.length left) }
     ensures rest { (left : List Bool) (most : ℕ) → result.length ≤ most → most ≤ 57 → IsAhead most left bits → IsAhead (most - result.length) (drop result.length left) result.rest }
     ensures few { result.length ≤ 79 }
 {
     let ahead = with_one_below(bits);
     let zeros = ahead.leading_zeros();
-    let length = zeros + shortest;
+    let length = zeros + 1 + k;
+    let rest = ahead.rotate_left(length);
     Part {
         zeros: zeros as u16,
-        ending: (ahead.rotate_left(length) % 65536) as u16,
+        ending: (rest % (1 << 32)) as u32,
         length,
-        // Where a word isn't seen whole, whatever is shifted does.
-        rest: ahead << (length % 64),
+        rest,
     }
 }
