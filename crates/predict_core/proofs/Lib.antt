@@ -42,3 +42,4 @@ pub mod WaveTiles
 pub mod WaveForms
 pub mod WaveRows
 pub mod WaveBegun
+pub mod WaveEnds

@@ -1,6 +1,7 @@
 -- A wavefront of eight bands: what its lanes hold.
-use Rattle.std.specs.Prelude.{ℕ, ◌+◌, ◌-◌, ◌<◌, nat_lt, ℤ, pos, ◌+ℤ◌, ◌*ℤ◌, ◌≤ℤ◌, unsigned_abs, Bool, List, if◌then◌else◌}
+use Rattle.std.specs.Prelude.{ℕ, ◌+◌, ◌-◌, ◌<◌, nat_lt, ℤ, pos, ◌+ℤ◌, ◌*ℤ◌, ◌≤ℤ◌, unsigned_abs, Bool, List, [], slice_index_or, if◌then◌else◌}
 use Rattle.lanes.specs.Lanes.{lane, place}
+use Rattle.predict_core.specs.declared.wave.room.WeightRows.{WeightRows}
 
 -- each of eight lanes holds a number from 0 to a limit
 abbrev pub AreOffsets : ℤ → List ℤ → Type 0
@@ -34,3 +35,11 @@ AreOffsetRows limit rows = (k b : ℕ) → k < 64 → b < 8 → (pos 0 ≤ℤ pl
 -- the local sum of offsets of a lane at step k, of rows that hold offsets by step, and those of the row above
 abbrev pub sum_at : Bool → List (List ℤ) → List (List ℤ) → ℕ → ℕ → ℤ
 sum_at column numbers above k b = sum_by column (place numbers (k - 1) b) (place above (k - 1) b) (place above k b) (place above (k + 1) b)
+
+-- no rows of weights
+abbrev pub no_rows : WeightRows
+no_rows = record { rows = [] }
+
+-- the rows of weights that were kept for a lane
+abbrev pub kept_rows : List WeightRows → ℕ → List (List ℤ)
+kept_rows ends b = (slice_index_or ends b no_rows).rows

@@ -1,5 +1,5 @@
 -- A piece of a row of eight bands that is inverted as a wavefront: the form for it, and what is found.
-use Rattle.std.specs.Prelude.{ℕ, ◌≡◌, ◌+◌, ◌-◌, ◌*◌, ◌^◌, ◌<◌, ◌≤◌, ℤ, pos, ◌+ℤ◌, ◌-ℤ◌, ◌≤ℤ◌, List, length, take}
+use Rattle.std.specs.Prelude.{ℕ, ◌≡◌, ◌+◌, ◌-◌, ◌*◌, ◌^◌, ◌<◌, ◌≤◌, ℤ, pos, ◌+ℤ◌, ◌-ℤ◌, ◌≤ℤ◌, min, nat_lt, List, length, take, if◌then◌else◌}
 use Rattle.header_bits.specs.declared.params.Params.{Params}
 use Rattle.cube_core.specs.Kind.{smin, smax}
 use Rattle.cube_core.specs.Image.{Image}
@@ -11,9 +11,11 @@ use Rattle.sample_prediction.specs.Predictor.{component_count}
 use Rattle.sample_prediction.specs.Weights.{step_exponent}
 use Rattle.sample_prediction.specs.declared.predictor.Predictor.{Predictor}
 use Rattle.predict_core.specs.declared.wave.form.Form.{Form}
+use Rattle.predict_core.specs.declared.wave.room.WeightRows.{WeightRows}
 use Rattle.predict_core.specs.Following.{PredictorState}
 use Rattle.predict_core.specs.GroupLanes.{IsNarrow}
 use Rattle.predict_core.specs.Inversion.{IsInverting, band_at, number_at}
+use Rattle.predict_core.specs.Wave.{kept_rows}
 use Rattle.predict_core.specs.WaveLanes.{column_at, first_column, first_step}
 
 -- the form is that of a predictor in row y, where one exponent holds from end to end; lanes of 16 bits are exact for it
@@ -32,12 +34,30 @@ pub record IsFormOf (f : Form) (m : Predictor) (c : Image) (y : ℕ) : Type 0 wh
 abbrev pub StandAsWave : List PredictorState → ℕ → ℕ → ℕ → ℕ → Type 0
 StandAsWave bands first columns y origin = (b : ℕ) → b < 8 → (band_at bands (first + b)).t ≡ y * columns + first_column origin b
 
--- the lines have the offsets of each band from its first step to step `last`, and the rows of weights its weights there
-pub record AreFound (q : ℕ) (bands : List PredictorState) (c : Image) (first y origin last : ℕ) (lines weights : List (List ℤ)) : Type 0 where
+-- each of eight bands stands in a row, or at its end
+abbrev pub StandInRow : List PredictorState → ℕ → ℕ → ℕ → Type 0
+StandInRow bands first columns y = (b : ℕ) → b < 8 → (y * columns ≤ (band_at bands (first + b)).t) × ((band_at bands (first + b)).t ≤ y * columns + columns)
+
+-- how many lanes come to the last column before step `last`: the first ones, one after another
+abbrev pub ended : ℕ → ℕ → ℕ → ℕ
+ended columns origin last = origin + last - (columns + 6)
+
+-- the column that a lane has come to before step `last`: the last column at most
+abbrev pub end_column : ℕ → ℕ → ℕ → ℕ → ℕ
+end_column columns origin last b = min (columns - 1) (column_at origin last b)
+
+-- the rows that hold the weights of a lane there: some that were kept for it, if it has come to the last column before
+abbrev pub rows_at_end : ℕ → List WeightRows → List (List ℤ) → ℕ → List (List ℤ)
+rows_at_end lanes ends weights b = if nat_lt b lanes then kept_rows ends b else weights
+
+-- the lines have the offsets of each band from its first step to step `last`, up to the last column but one, and the rows of weights its weights after them
+pub record AreFound (q : ℕ) (bands : List PredictorState) (c : Image) (first y origin last : ℕ) (lines : List (List ℤ)) (ends : List WeightRows)
+    (weights : List (List ℤ)) : Type 0 where
   pub within : (b i : ℕ) → b < 8 → i < 64 → (pos 0 ≤ℤ place lines b i) × (place lines b i ≤ℤ (pos (2 ^ c.kind.bits) -ℤ pos 1))
   pub enough : (b : ℕ) → b < 8 → length (band_at bands (first + b)).weights ≤ 2 * q
-  pub weights_in : (b : ℕ) → b < 8 → AllWithin (2 ^ ((band_at bands (first + b)).predictor.omega + 2)) (weights_of q b weights)
-  pub offsets : (p : Params) (d : Image) → IsInverting p c d bands → (b i : ℕ) → b < 8 → first_step origin b ≤ i → i < last
+  pub weights_in : (b : ℕ) → b < 8 → AllWithin (2 ^ ((band_at bands (first + b)).predictor.omega + 2)) (weights_of q b (rows_at_end (ended c.shape.columns origin last) ends weights b))
+  pub offsets : (p : Params) (d : Image) → IsInverting p c d bands → (b i : ℕ) → b < 8 → first_step origin b ≤ i → i < last → column_at origin i b + 1 < c.shape.columns
       → place lines b i ≡ pos (number_at d (first + b) y (column_at origin i b))
   pub weights_at : (p : Params) (d : Image) → IsInverting p c d bands → (b : ℕ) → b < 8
-      → take (length (band_at bands (first + b)).weights) (weights_of q b weights) ≡ weight_vector p d (first + b) (y * c.shape.columns + column_at origin last b)
+      → take (length (band_at bands (first + b)).weights) (weights_of q b (rows_at_end (ended c.shape.columns origin last) ends weights b))
+      ≡ weight_vector p d (first + b) (y * c.shape.columns + end_column c.shape.columns origin last b)

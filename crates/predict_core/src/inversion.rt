@@ -5,7 +5,7 @@ ghost use Rattle.cube_core.specs.Image.{Image, IsPlace};
 ghost use Rattle.header_bits.specs.declared.params.Params.{Params as Parameters};
 ghost use Rattle.predict_core.specs.Precedence.{AreAlike};
 ghost use Rattle.predict_core.specs.Inversion.{IsAtStart, IsCoded, IsInverting, AreAhead, StandAt, AreKeptBeside, band_at};
-ghost use Rattle.predict_core.specs.WaveTiles.{IsFormOf, StandAsWave};
+ghost use Rattle.predict_core.specs.WaveTiles.{IsFormOf, StandAsWave, StandInRow, end_column};
 
 use crate::band::Band;
 use crate::mapping::copy_offsets;
@@ -113,8 +113,8 @@ fn invert_wave(
     ensures others { AreKeptBeside bands.old bands.new first (first + 8) }
 {
     start_wave(bands, first, cube, y);
-    let origin = invert_tiles(bands, first, cube, y, form, room);
-    end_wave(bands, first, cube, y, origin);
+    invert_tiles(bands, first, cube, y, form, room);
+    end_wave(bands, first, cube, y);
 }
 
 /// Inverts the first place of row `y` of eight bands.
@@ -136,13 +136,12 @@ fn start_wave(bands: &mut [Band], first: usize, cube: &mut Cube, y: u32)
     }
 }
 
-/// Inverts the rest of row `y` of eight bands that have come as far as before step 8 of a wavefront.
-fn end_wave(bands: &mut [Band], first: usize, cube: &mut Cube, y: u32, origin: usize)
+/// Inverts the rest of row `y` of eight bands, from where each has come to.
+fn end_wave(bands: &mut [Band], first: usize, cube: &mut Cube, y: u32)
     requires inverting { (p : Parameters) × (d : Image) × IsInverting p cube.old d bands.old }
     requires eight { first + 8 ≤ length bands.old }
     requires row { y < cube.old.shape.rows }
-    requires inside { origin + 1 ≤ cube.old.shape.columns }
-    requires stand { StandAsWave bands.old first cube.old.shape.columns y origin }
+    requires stand { StandInRow bands.old first cube.old.shape.columns y }
     requires ahead { AreAhead bands.old first ((y + 1) * cube.old.shape.columns) }
     ensures inverted { (p : Parameters) (d : Image) → IsInverting p cube.old d bands.old → IsInverting p cube.new d bands.new }
     ensures alike { AreAlike cube.old cube.new }
@@ -152,13 +151,22 @@ fn end_wave(bands: &mut [Band], first: usize, cube: &mut Cube, y: u32, origin: u
 {
     cube.prove_is_cube();
     for b in 0..8usize {
-        let x = (origin.saturating_sub(b) + 1) as u32;
-        invert_rest(bands, first + b, cube, y, x);
+        let z = first + b;
+        let x = column_in(&bands[z], cube, y);
+        invert_rest(bands, z, cube, y, x);
     }
 }
 
-/// Inverts row `y` of eight bands from column 1 on, piece after piece, until the first of them has come to its last column, and returns
-/// the origin of the step that they have come to. It ends before where 16 bits don't hold their weights.
+/// Returns the column that a band has come to in row `y`.
+fn column_in(band: &Band, cube: &Cube, y: u32) -> u32
+    requires { (y * cube.now.shape.columns ≤ band.now.t) × (band.now.t ≤ y * cube.now.shape.columns + cube.now.shape.columns) }
+    ensures { y * cube.now.shape.columns + result ≡ band.now.t }
+{
+    (band.next() - y as u64 * cube.shape().columns() as u64) as u32
+}
+
+/// Inverts row `y` of eight bands from column 1 on, piece after piece, until they have come to the last column. It ends before where 16
+/// bits don't hold their weights.
 fn invert_tiles(
     bands: &mut [Band],
     first: usize,
@@ -166,7 +174,7 @@ fn invert_tiles(
     y: u32,
     form: Form,
     room: &mut WaveRoom,
-) -> usize
+)
     requires inverting { (p : Parameters) × (d : Image) × IsInverting p cube.old d bands.old }
     requires eight { first + 8 ≤ length bands.old }
     requires row { (0 < y) × (y < cube.old.shape.rows) }
@@ -177,21 +185,30 @@ fn invert_tiles(
     ensures inverted { (p : Parameters) (d : Image) → IsInverting p cube.old d bands.old → IsInverting p cube.new d bands.new }
     ensures alike { AreAlike cube.old cube.new }
     ensures many { length bands.new ≡ length bands.old }
-    ensures inside { result + 2 ≤ cube.old.shape.columns }
-    ensures stand { StandAsWave bands.new first cube.old.shape.columns y result }
+    ensures stand { StandInRow bands.new first cube.old.shape.columns y }
     ensures others { AreKeptBeside bands.old bands.new first (first + 8) }
 {
     cube.prove_is_cube();
     let columns = cube.shape().columns() as usize;
     let mut origin = 0;
-    while origin + 2 < columns {
+    // All bands end in one piece, the last: its 63 steps are enough for it.
+    while origin + 50 < columns {
         let last = 63.min(columns + 6 - origin);
         if !invert_by(bands, first, cube, y, origin, last, form, room) {
-            return origin;
+            return;
         }
         origin += last - 8;
     }
-    origin
+    let _inverted = invert_by(
+        bands,
+        first,
+        cube,
+        y,
+        origin,
+        columns + 13 - origin,
+        form,
+        room,
+    );
 }
 
 /// `invert_tile` with as many pairs as hold the components.
@@ -210,14 +227,14 @@ fn invert_by(
     requires row { (0 < y) × (y < cube.old.shape.rows) }
     requires last { (8 ≤ last) × (last ≤ 63) }
     requires begun { (origin ≡ 0 → 15 ≤ last) × (0 < origin → 7 ≤ origin) }
-    requires inside { (origin + 2 ≤ cube.old.shape.columns) × (origin + last ≤ cube.old.shape.columns + 6) }
+    requires inside { (16 ≤ cube.old.shape.columns) × (origin + 2 ≤ cube.old.shape.columns) × (origin + last ≤ cube.old.shape.columns + 13) }
     requires stand { StandAsWave bands.old first cube.old.shape.columns y origin }
     requires ahead { AreAhead bands.old first ((y + 1) * cube.old.shape.columns) }
     requires form { IsFormOf form (band_at bands.old first).predictor cube.old y }
     ensures inverted { (p : Parameters) (d : Image) → IsInverting p cube.old d bands.old → IsInverting p cube.new d bands.new }
     ensures alike { AreAlike cube.old cube.new }
     ensures many { length bands.new ≡ length bands.old }
-    ensures moved { result ≡ true → StandAsWave bands.new first cube.old.shape.columns y (origin + (last - 8)) }
+    ensures moved { result ≡ true → (b : ℕ) → b < 8 → (band_at bands.new (first + b)).t ≡ y * cube.old.shape.columns + end_column cube.old.shape.columns origin last b }
     ensures kept { result ≡ false → bands.new ≡ bands.old }
     ensures others { AreKeptBeside bands.old bands.new first (first + 8) }
 {

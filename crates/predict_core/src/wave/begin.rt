@@ -1,20 +1,22 @@
-//! The steps of a wavefront in one piece of a row, in which one lane after another begins if the piece is the row's first.
+//! The steps of a wavefront in one piece of a row, in which one lane after another begins if the piece is the row's first, and ends if it
+//! is its last.
 
-ghost use Rattle.std.specs.Prelude.{◌≡◌, ◌≢◌, ◌+◌, ◌^◌, ◌<◌, ◌≤◌, ℕ, true, min, length};
+ghost use Rattle.std.specs.Prelude.{◌≡◌, ◌≢◌, ◌+◌, ◌^◌, ◌<◌, ◌-◌, ◌*◌, ◌≤◌, ℕ, true, min, length, take};
 ghost use Rattle.cube_core.specs.Image.{Image};
 ghost use Rattle.header_bits.specs.declared.params.Params.{Params as Parameters};
 ghost use Rattle.lanes.specs.Lanes.{lane, place};
 ghost use Rattle.band_lanes.specs.Rows.{weights_of};
 ghost use Rattle.sample_prediction.specs.Bounds.{AllWithin};
+ghost use Rattle.sample_prediction.specs.Chain.{AreWeightsAt};
 ghost use Rattle.predict_core.specs.declared.settings.Settings.{Settings as Constants};
 ghost use Rattle.predict_core.specs.Inversion.{band_at};
-ghost use Rattle.predict_core.specs.Wave.{AreOffsetRows, AreRowsBelow};
-ghost use Rattle.predict_core.specs.WaveLanes.{AreLanes, AreInStep, AreToBegin};
+ghost use Rattle.predict_core.specs.Wave.{AreOffsetRows, AreRowsBelow, kept_rows};
+ghost use Rattle.predict_core.specs.WaveLanes.{AreLanes, AreInStep, AreToBegin, column_at};
 
 use crate::band::Band;
 use crate::group::weights::put_band;
 use crate::wave::form::Form;
-use crate::wave::room::WaveRoom;
+use crate::wave::room::{WaveRoom, WeightRows};
 use crate::wave::steps::{Stretch, invert_places};
 
 /// Inverts the prediction of eight bands from step 8 to step `to`, and returns whether 16 bits hold their weights. If not, what the room
@@ -39,7 +41,10 @@ pub(crate) fn invert_steps<const Q: usize>(
     requires lower_in { AreRowsBelow (2 ^ (form.step.bits + 2)) room.old.lower }
     requires own_in { AreRowsBelow (2 ^ (form.step.bits + 2)) room.old.own }
     requires weights_in { (b : ℕ) → b < 8 → AllWithin (2 ^ (form.step.omega + 2)) (weights_of Q b room.old.weights) }
+    ensures above { result ≡ true → room.new.above ≡ room.old.above }
+    ensures lower { result ≡ true → room.new.lower ≡ room.old.lower }
     ensures numbers_in { result ≡ true → AreOffsetRows form.greatest room.new.numbers }
+    ensures own_in { result ≡ true → AreRowsBelow (2 ^ (form.step.bits + 2)) room.new.own }
     ensures weights_in { result ≡ true → (b : ℕ) → b < 8 → AllWithin (2 ^ (form.step.omega + 2)) (weights_of Q b room.new.weights) }
     ensures inverted { result ≡ true → (p : Parameters) (s : ℕ → Constants) (d : Image) (y last : ℕ)
         → AreLanes Q form p s d first y origin last room.old.above room.old.lower → to ≤ last
@@ -101,6 +106,40 @@ fn begin_lanes<const Q: usize>(
     true
 }
 
+/// Inverts the prediction of eight lanes from step `from` to step `last`. Before step `from + b` lane b comes to its last column.
+///
+/// There its weights are kept, since its further steps have no meaning.
+pub(crate) fn end_lanes<const Q: usize>(form: Form, from: usize, last: usize, room: &mut WaveRoom)
+    requires few { Q ≤ 9 }
+    requires steps { (8 ≤ from) × (from ≤ last) × (last ≤ 63) × (last ≤ from + 8) }
+    requires above_in { AreOffsetRows form.greatest room.old.above }
+    requires numbers_in { AreOffsetRows form.greatest room.old.numbers }
+    requires lower_in { AreRowsBelow (2 ^ (form.step.bits + 2)) room.old.lower }
+    requires own_in { AreRowsBelow (2 ^ (form.step.bits + 2)) room.old.own }
+    requires weights_in { (b : ℕ) → b < 8 → AllWithin (2 ^ (form.step.omega + 2)) (weights_of Q b room.old.weights) }
+    ensures numbers_in { AreOffsetRows form.greatest room.new.numbers }
+    ensures weights_in { (b : ℕ) → b < 8 → AllWithin (2 ^ (form.step.omega + 2)) (weights_of Q b room.new.weights) }
+    ensures ends_in { (b : ℕ) → b < last - from → AllWithin (2 ^ (form.step.omega + 2)) (weights_of Q b (kept_rows room.new.ends b)) }
+    ensures inverted { (p : Parameters) (s : ℕ → Constants) (d : Image) (first y origin : ℕ)
+        → AreLanes Q form p s d first y origin last room.old.above room.old.lower → 15 ≤ origin + from
+        → AreInStep Q p s d first y origin last 8 from room.old.numbers room.old.own room.old.weights
+        → AreInStep Q p s d first y origin last 8 last room.new.numbers room.new.own room.new.weights }
+    ensures kept { (p : Parameters) (s : ℕ → Constants) (d : Image) (first y origin : ℕ)
+        → AreLanes Q form p s d first y origin last room.old.above room.old.lower → 15 ≤ origin + from
+        → AreInStep Q p s d first y origin last 8 from room.old.numbers room.old.own room.old.weights
+        → (b : ℕ) → b < last - from → column_at origin (from + b) b < d.shape.columns
+        → AreWeightsAt p (s b).predictor d (first + b) (y * d.shape.columns + column_at origin (from + b) b) (take (s b).count (weights_of Q b (kept_rows room.new.ends b))) }
+{
+    for b in 0..last - from {
+        room.ends[b] = WeightRows { rows: room.weights };
+        let step = Stretch {
+            from: from + b,
+            to: from + b + 1,
+        };
+        invert_by::<Q>(form, step, room);
+    }
+}
+
 /// Writes number `b` of row `i` as it was.
 fn put_back(start: &[[i16; 8]; 64], i: usize, b: usize, numbers: &mut [[i16; 8]; 64])
     requires row { i < 64 }
@@ -132,6 +171,7 @@ fn invert_by<const Q: usize>(form: Form, stretch: Stretch, room: &mut WaveRoom)
     requires weights_in { (b : ℕ) → b < 8 → AllWithin (2 ^ (form.step.omega + 2)) (weights_of Q b room.old.weights) }
     ensures above { room.new.above ≡ room.old.above }
     ensures lower { room.new.lower ≡ room.old.lower }
+    ensures ends { room.new.ends ≡ room.old.ends }
     ensures numbers_in { AreOffsetRows form.greatest room.new.numbers }
     ensures own_in { AreRowsBelow (2 ^ (form.step.bits + 2)) room.new.own }
     ensures weights_in { (b : ℕ) → b < 8 → AllWithin (2 ^ (form.step.omega + 2)) (weights_of Q b room.new.weights) }

@@ -2,6 +2,12 @@
 
 use band_lanes::pairs::{MOST_PAIRS, Pairs};
 
+/// The weights of eight bands, in rows of pairs.
+#[derive(Clone, Copy)]
+pub(crate) struct WeightRows {
+    pub rows: [[i16; 16]; MOST_PAIRS],
+}
+
 /// Room for a piece of a row of eight bands, and for what is known of the eight bands below them.
 ///
 /// It takes some 25 KB, so it is made once and used for one piece after another. What it holds between them has no meaning.
@@ -16,6 +22,7 @@ pub(crate) struct WaveRoom {
     pub own: [[i16; 8]; 64],
     pub pairs: [Pairs; MOST_PAIRS],
     pub weights: [[i16; 16]; MOST_PAIRS],
+    pub ends: [WeightRows; 8],
 }
 
 impl WaveRoom {
@@ -33,6 +40,9 @@ impl WaveRoom {
                 places: [[0; 16]; 64],
             }; MOST_PAIRS],
             weights: [[0; 16]; MOST_PAIRS],
+            ends: [WeightRows {
+                rows: [[0; 16]; MOST_PAIRS],
+            }; 8],
         }
     }
 }

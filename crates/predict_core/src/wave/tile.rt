@@ -5,14 +5,14 @@ ghost use Rattle.cube_core.specs.Image.{Image};
 ghost use Rattle.header_bits.specs.declared.params.Params.{Params as Parameters};
 ghost use Rattle.predict_core.specs.Inversion.{IsInverting, AreAhead, AreKeptBeside, band_at};
 ghost use Rattle.predict_core.specs.Precedence.{AreAlike};
-ghost use Rattle.predict_core.specs.WaveTiles.{AreFound, IsFormOf, StandAsWave};
+ghost use Rattle.predict_core.specs.WaveTiles.{AreFound, IsFormOf, StandAsWave, end_column};
 
 use crate::band::Band;
 use crate::group::weights::fill_weights;
 use crate::settings::Settings;
-use crate::wave::begin::invert_steps;
+use crate::wave::begin::{end_lanes, invert_steps};
 use crate::wave::centrals::fill_centrals;
-use crate::wave::finish::finish_lane;
+use crate::wave::finish::{ended_of, finish_lane};
 use crate::wave::form::Form;
 use crate::wave::room::WaveRoom;
 use crate::wave::rows::fill_rows;
@@ -22,7 +22,8 @@ use lanes::turn::turn_back;
 /// Inverts row `y` of eight bands from step 8 to step `last`, and returns whether 16 bits hold their weights. If not, nothing is inverted.
 ///
 /// At step k band `first + b` is at column `origin + k - 7 - b`. Where `origin` is 0 no band has come further than column 1, so each
-/// begins a step after the one below it. The bands below them have come to the end of the row. `Q` pairs hold the components of each band.
+/// begins a step after the one below it. No band goes beyond the last column but one. The bands below them have come to the end of the
+/// row. `Q` pairs hold the components of each band.
 pub(crate) fn invert_tile<const Q: usize>(
     bands: &mut [Band],
     first: usize,
@@ -39,14 +40,14 @@ pub(crate) fn invert_tile<const Q: usize>(
     requires row { (0 < y) × (y < cube.old.shape.rows) }
     requires last { (8 ≤ last) × (last ≤ 63) }
     requires begun { (origin ≡ 0 → 15 ≤ last) × (0 < origin → 7 ≤ origin) }
-    requires inside { (origin + 2 ≤ cube.old.shape.columns) × (origin + last ≤ cube.old.shape.columns + 6) }
+    requires inside { (16 ≤ cube.old.shape.columns) × (origin + 2 ≤ cube.old.shape.columns) × (origin + last ≤ cube.old.shape.columns + 13) }
     requires stand { StandAsWave bands.old first cube.old.shape.columns y origin }
     requires ahead { AreAhead bands.old first ((y + 1) * cube.old.shape.columns) }
     requires form { IsFormOf form (band_at bands.old first).predictor cube.old y }
     ensures inverted { (p : Parameters) (d : Image) → IsInverting p cube.old d bands.old → IsInverting p cube.new d bands.new }
     ensures alike { AreAlike cube.old cube.new }
     ensures many { length bands.new ≡ length bands.old }
-    ensures moved { result ≡ true → StandAsWave bands.new first cube.old.shape.columns y (origin + (last - 8)) }
+    ensures moved { result ≡ true → (b : ℕ) → b < 8 → (band_at bands.new (first + b)).t ≡ y * cube.old.shape.columns + end_column cube.old.shape.columns origin last b }
     ensures kept { result ≡ false → bands.new ≡ bands.old }
     ensures others { AreKeptBeside bands.old bands.new first (first + 8) }
 {
@@ -75,11 +76,11 @@ fn invert_lanes<const Q: usize>(
     requires row { (0 < y) × (y < cube.now.shape.rows) }
     requires last { (8 ≤ last) × (last ≤ 63) }
     requires begun { (origin ≡ 0 → 15 ≤ last) × (0 < origin → 7 ≤ origin) }
-    requires inside { (origin + 2 ≤ cube.now.shape.columns) × (origin + last ≤ cube.now.shape.columns + 6) }
+    requires inside { (16 ≤ cube.now.shape.columns) × (origin + 2 ≤ cube.now.shape.columns) × (origin + last ≤ cube.now.shape.columns + 13) }
     requires stand { StandAsWave bands.now first cube.now.shape.columns y origin }
     requires ahead { AreAhead bands.now first ((y + 1) * cube.now.shape.columns) }
     requires form { IsFormOf form (band_at bands.now first).predictor cube.now y }
-    ensures { result ≡ true → AreFound Q bands.now cube.now first y origin last room.new.lines room.new.weights }
+    ensures { result ≡ true → AreFound Q bands.now cube.now first y origin last room.new.lines room.new.ends room.new.weights }
 {
     cube.prove_is_cube();
     // The constants of one band are those of all, but for its number.
@@ -131,9 +132,11 @@ fn invert_lanes<const Q: usize>(
         &mut room.lower,
     );
     fill_centrals(form, 8, &room.numbers, &room.above, &mut room.own);
-    if !invert_steps::<Q>(bands, first, origin, last, form, room) {
+    let lanes = ended_of(cube, origin, last);
+    if !invert_steps::<Q>(bands, first, origin, last - lanes, form, room) {
         return false;
     }
+    end_lanes::<Q>(form, last - lanes, last, room);
     turn_back(&room.numbers, &mut room.lines);
     true
 }
@@ -163,14 +166,14 @@ fn finish_lanes<const Q: usize>(
     requires row { y < cube.old.shape.rows }
     requires last { (8 ≤ last) × (last ≤ 63) }
     requires begun { (origin ≡ 0 → 15 ≤ last) × (0 < origin → 7 ≤ origin) }
-    requires inside { (origin + 2 ≤ cube.old.shape.columns) × (origin + last ≤ cube.old.shape.columns + 6) }
+    requires inside { (16 ≤ cube.old.shape.columns) × (origin + 2 ≤ cube.old.shape.columns) × (origin + last ≤ cube.old.shape.columns + 13) }
     requires stand { StandAsWave bands.old first cube.old.shape.columns y origin }
     requires enough { (b : ℕ) → b < 8 → length (band_at bands.old (first + b)).weights ≤ 2 * Q }
-    requires found { AreFound Q bands.old cube.old first y origin last room.now.lines room.now.weights }
+    requires found { AreFound Q bands.old cube.old first y origin last room.now.lines room.now.ends room.now.weights }
     ensures inverted { (p : Parameters) (d : Image) → IsInverting p cube.old d bands.old → IsInverting p cube.new d bands.new }
     ensures alike { AreAlike cube.old cube.new }
     ensures many { length bands.new ≡ length bands.old }
-    ensures moved { StandAsWave bands.new first cube.old.shape.columns y (origin + (last - 8)) }
+    ensures moved { (b : ℕ) → b < 8 → (band_at bands.new (first + b)).t ≡ y * cube.old.shape.columns + end_column cube.old.shape.columns origin last b }
     ensures others { AreKeptBeside bands.old bands.new first (first + 8) }
 {
     cube.prove_is_cube();

@@ -1,8 +1,11 @@
-use Rattle.std.proofs.Common.{◌≡◌, ◌∙◌, ◌+◌, ◌-◌, ◌*◌, ◌<◌, ◌≤◌, ℕ, sym, ap, inl, inr, arith}
+use Rattle.std.proofs.Common.{◌≡◌, ◌∙◌, ◌+◌, ◌-◌, ◌*◌, ◌<◌, ◌≤◌, ℕ, get_or, sym, ap, inl, inr, arith}
 use Rattle.std.proofs.lemmas.Bool.{cases_lt, cases_eq}
 use Rattle.cube_core.specs.Shape.{Sizes}
+use Rattle.std.proofs.lemmas.Option.{slice_get-get_or, get_or_from_slice_get}
+use Rattle.predict_core.specs.GroupRooms.{no_band}
 use Rattle.predict_core.specs.Inversion.{band_at}
 use Rattle.predict_core.proofs.inversion.end_wave.Goals as goal
+use Rattle.predict_core.proofs.inversion.end_wave.Goals.{After-column_in-x}
 
 pub invert_rest-requires-clause-ahead : goal.invert_rest-requires-clause-ahead
 invert_rest-requires-clause-ahead c lower low =
@@ -16,6 +19,38 @@ invert_rest-requires-clause-ahead c lower low =
           (let here : c.args.first + (lower - c.args.first) ≡ lower = omega (arith, not) in
           let m = rw here at (kept.moved (lower - c.args.first) (omega (arith, low, not))) in omega (arith, m, row))
     ]
+
+module _ (c : After-column_in-x) where
+  abbrev z : ℕ
+  z = c.args.first + c.loop-b.b
+
+  here : get_or c.loop-b.bands z c.index-bands-z.result ≡ band_at c.loop-b.bands z
+  here = get_or_from_slice_get c.loop-b.bands z (band_at c.loop-b.bands z) c.index-bands-z.result
+      (slice_get-get_or c.loop-b.bands z no_band (omega (arith, c.loop-b-test.true, c.requires.eight, c.loop-b.invariant.many)))
+
+  come : c.args.y * c.loop-b.cube.shape.columns + c.column_in-x.result ≡ (band_at c.loop-b.bands z).t
+  come = rw here at c.column_in-x.ensures
+
+  bound : (band_at c.loop-b.bands z).t ≤ c.args.y * c.loop-b.cube.shape.columns + c.loop-b.cube.shape.columns
+  bound =
+      let columns = ap (λ (s : Sizes). s.columns) c.loop-b.invariant.alike.shape in
+      rw (c.loop-b.invariant.others z (λ low. omega arith), ← columns) (c.requires.stand c.loop-b.b c.loop-b-test.true).1
+
+pub column_in-x-requires : goal.column_in-x-requires
+column_in-x-requires c =
+    let z : ℕ = c.args.first + c.loop-b.b in let columns = ap (λ (s : Sizes). s.columns) c.loop-b.invariant.alike.shape in
+    let same : band_at c.loop-b.bands z ≡ band_at c.args.bands.now z = c.loop-b.invariant.others z (λ low. omega arith) in
+    let here : get_or c.loop-b.bands z c.index-bands-z.result ≡ band_at c.loop-b.bands z =
+    get_or_from_slice_get c.loop-b.bands z (band_at c.loop-b.bands z) c.index-bands-z.result
+    (slice_get-get_or c.loop-b.bands z no_band (omega (arith, c.loop-b-test.true, c.requires.eight, c.loop-b.invariant.many))) in
+    rw (here, same, ← columns) (c.requires.stand c.loop-b.b c.loop-b-test.true)
+
+pub invert_rest-requires-clause-inside : goal.invert_rest-requires-clause-inside
+invert_rest-requires-clause-inside c =
+    let d = (goal.at.invert_rest-requires-clause-inside c).After-column_in-x in let low = come d in let high = bound d in omega (arith, low, high)
+
+pub invert_rest-requires-clause-start : goal.invert_rest-requires-clause-start
+invert_rest-requires-clause-start c = sym (come (goal.at.invert_rest-requires-clause-start c).After-column_in-x)
 
 pub loop-b-preserved : goal.loop-b-preserved
 loop-b-preserved c =

@@ -6,6 +6,7 @@ use Rattle.sample_prediction.specs.Prediction.{weight_vector}
 use Rattle.predict_core.specs.Following.{PredictorState}
 use Rattle.predict_core.specs.Inversion.{band_at, number_at}
 use Rattle.predict_core.specs.WaveLanes.{column_at, first_column, first_step}
+use Rattle.predict_core.specs.WaveTiles.{ended, end_column, rows_at_end}
 use Rattle.predict_core.proofs.wave.tile.finish_lanes.Goals as goal
 
 pub loop-b-preserved : goal.loop-b-preserved
@@ -17,14 +18,14 @@ loop-b-preserved g c =
     let columns = ap (λ (s : Sizes). s.columns) kept.alike.shape in
     record {
       inverted = λ p d inv.
-          did.inverted p d (kept.inverted p d inv) (λ i low high. c.requires.found.offsets p d inv b i fits low high)
-          (ap (λ (v : PredictorState). take (length v.weights) (weights_of g.row.Q b c.args.room.now.weights)) same
-          ∙ c.requires.found.weights_at p d inv b fits
-          ∙ ap (λ (m : ℕ). weight_vector p d z (c.args.y * m + column_at c.args.origin c.args.last b)) columns);
+          did.inverted p d (kept.inverted p d inv) (λ i low high right. c.requires.found.offsets p d inv b i fits low high (rw columns right))
+          (ap (λ (v : PredictorState). take (length v.weights) (weights_of g.row.Q b (rows_at_end (ended c.loop-b.cube.shape.columns c.args.origin c.args.last)
+          c.args.room.now.ends c.args.room.now.weights b))) same
+          ∙ rw columns at (c.requires.found.weights_at p d inv b fits));
       alike = record { shape = kept.alike.shape ∙ did.alike.shape; kind = kept.alike.kind ∙ did.alike.kind };
       many = did.many ∙ kept.many;
       moved = λ k lt. elim (cases_eq k b) [
-        | inl here ↦ rw here (rw same at did.moved)
+        | inl here ↦ rw here (rw (same, ← columns) at did.moved)
         | inr apart ↦ rw (did.others (c.args.first + k) (λ low. absurd (omega (arith, low, lt, apart)))) (kept.moved k (omega (arith, lt, apart)))
       ];
       others = λ z' out. did.others z' (λ low. (let o = out (omega (arith, low)) in omega (arith, o)))

@@ -4,7 +4,8 @@ use Rattle.header_bits.specs.declared.params.Params.{Params}
 use Rattle.predict_core.specs.Following.{MovesBy}
 use Rattle.predict_core.specs.Inversion.{IsInverting, AreKeptBeside, band_at}
 use Rattle.predict_core.specs.Precedence.{AreAlike}
-use Rattle.predict_core.specs.WaveLanes.{first_step}
+use Rattle.predict_core.specs.WaveLanes.{first_column}
+use Rattle.predict_core.specs.WaveTiles.{end_column}
 use Rattle.predict_core.proofs.wave.tile.finish_lanes.Given as goal
 
 abbrev pub invariant-loop-b : goal.invariant-loop-b
@@ -12,6 +13,6 @@ invariant-loop-b g l = record {
   inverted : (p : Params) (d : Image) → IsInverting p l.initial.cube d l.initial.bands → IsInverting p l.cube d l.bands;
   alike : AreAlike l.initial.cube l.cube;
   many : length l.bands ≡ length l.initial.bands;
-  moved : (b : ℕ) → b < l.b → MovesBy (l.last - first_step l.origin b) (band_at l.initial.bands (l.first + b)) (band_at l.bands (l.first + b));
+  moved : (b : ℕ) → b < l.b → MovesBy (end_column l.initial.cube.shape.columns l.origin l.last b - first_column l.origin b) (band_at l.initial.bands (l.first + b)) (band_at l.bands (l.first + b));
   others : AreKeptBeside l.initial.bands l.bands l.first (l.first + l.b);
 }

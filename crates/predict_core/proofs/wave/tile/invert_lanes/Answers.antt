@@ -1,5 +1,5 @@
 use Rattle.std.proofs.Common.{◌≡◌, ◌∙◌, ◌+◌, ◌-◌, ◌*◌, ◌^◌, ◌<◌, ◌≤◌, ℕ, ℤ, pos, ◌+ℤ◌, ◌-ℤ◌, ◌≤ℤ◌, List, Some, min, length, take, drop, get_or, sym, ap, subst, refl, arith}
-use Rattle.std.proofs.Common.{length-take, length-drop}
+use Rattle.std.proofs.Common.{ap₂, length-take, length-drop}
 use Rattle.std.specs.List.{slice_get}
 use Rattle.std.proofs.lemmas.Int.{ints}
 use Rattle.std.proofs.lemmas.List.{get_or-take, get_or-drop}
@@ -16,8 +16,10 @@ use Rattle.predict_core.specs.Following.{PredictorState}
 use Rattle.predict_core.specs.GroupLanes.{HasWeights}
 use Rattle.predict_core.specs.GroupRooms.{no_band}
 use Rattle.predict_core.specs.Inversion.{IsInverting, band_at}
-use Rattle.predict_core.specs.Wave.{AreOffsetRows}
-use Rattle.predict_core.specs.WaveLanes.{column_at}
+use Rattle.predict_core.specs.Wave.{AreOffsetRows, kept_rows}
+use Rattle.predict_core.specs.WaveLanes.{AreLanes, column_at}
+use Rattle.predict_core.specs.WaveTiles.{ended, end_column, rows_at_end}
+use Rattle.predict_core.proofs.WaveEnds.{at_end, whole_far, offsets_found, weights_found}
 use Rattle.predict_core.proofs.WaveTiles.{IsBegun, lanes_begun, start_begun, to_begin, constants_at, same_made, count_is, enough_at}
 use Rattle.predict_core.proofs.wave.tile.invert_lanes.Given as given
 use Rattle.predict_core.proofs.wave.tile.invert_lanes.Goals as goal
@@ -33,6 +35,9 @@ of_eight bands first b eight fits =
     ap (slice_get (take (first + 8 - first) (drop first bands))) at
     ∙ slice_get-get_or (take (first + 8 - first) (drop first bands)) b no_band (omega (arith, long, fits))
     ∙ ap (λ (v : PredictorState). Some v) (get_or-take (first + 8 - first) (drop first bands) b no_band (omega (arith, n, fits)) ∙ get_or-drop first bands b no_band)
+
+below_64 : (i last : ℕ) → i < last → last ≤ 63 → i < 64
+below_64 i last h most = omega (arith, h, most)
 
 greatest_is : (f : Form) (bits : ℕ) → f.step.bits ≡ bits → pos (2 ^ bits) -ℤ pos 1 ≡ f.greatest
 greatest_is f bits same = let e = f.greatest_is in let power = ap (λ (n : ℕ). 2 ^ n) same in omega (arith, ints, e, power)
@@ -56,7 +61,7 @@ module _ (g : given.Over) (c : After-fill_centrals-2 g) where
         eight = c.requires.eight;
         row = c.requires.row;
         steps = c.requires.last;
-        inside = c.requires.inside.0;
+        inside = c.requires.inside.1;
         stand = c.requires.stand;
         ahead = c.requires.ahead;
         form = c.requires.form;
@@ -105,22 +110,31 @@ invert_steps-requires-clause-weights_in g c = weights_small g (goal.at.invert_st
 pub returns : goal.returns
 returns g c said =
     let e = (goal.at.returns g c).After-fill_centrals-2 in
-    let done = c.if-not-invert_steps.false in
-    let did = c.invert_steps.ensures in
-    let found = λ (p : Params) (d : Image) (inv : IsInverting p c.args.cube.now d c.args.bands.now).
-    did.inverted done p (λ b. constants_at c.constants_of-constants.result (c.args.first + b)) d c.args.y c.args.last (lanes_begun (begun g e) inv) (omega arith) (to_begin (begun g e) inv)
-    (start_begun (begun g e) inv) in record {
-      within = λ b i fits small. rw (c.turn_back.ensures i b small fits, greatest_is c.args.form _ c.requires.form.bits) (did.numbers_in done i b small fits);
+    let width : ℕ = c.args.cube.now.shape.columns in let origin : ℕ = c.args.origin in let last : ℕ = c.args.last in
+    let lanes : ℕ = ended width origin last in let lanes_are : c.ended_of-lanes.result ≡ lanes = c.ended_of-lanes.ensures in
+    let inside = c.requires.inside in
+    let whole : last - (last - lanes) ≡ lanes = omega (arith, inside.1) in
+    let far = whole_far width origin last inside.0 inside.1 c.requires.last.0 c.requires.begun.0 c.requires.begun.1 in
+    let did = rw lanes_are at c.invert_steps.ensures in let done = c.if-not-invert_steps.false in let end = rw lanes_are at c.end_lanes.ensures in
+    let ends = c.end_lanes.new.room.ends in let weights = c.end_lanes.new.room.weights in
+    let settings = λ (b : ℕ). constants_at c.constants_of-constants.result (c.args.first + b) in
+    let constant : (p : Params) (d : Image) → IsInverting p c.args.cube.now d c.args.bands.now
+    → AreLanes g.row.Q c.args.form p settings d c.args.first c.args.y origin last c.invert_steps.new.room.above c.invert_steps.new.room.lower =
+    λ p d inv. rw (did.above done, did.lower done) (lanes_begun (begun g e) inv) in
+    let start = λ (p : Params) (d : Image) (inv : IsInverting p c.args.cube.now d c.args.bands.now).
+    did.inverted done p settings d c.args.y last (lanes_begun (begun g e) inv) (omega arith) (to_begin (begun g e) inv) (start_begun (begun g e) inv) in
+    record {
+      within = λ b i fits small. rw (c.turn_back.ensures i b small fits, greatest_is c.args.form _ c.requires.form.bits) (end.numbers_in i b small fits);
       enough = λ b fits. rw (← count_is (begun g e) c.requires.inverting.2 b fits) (enough_at (begun g e) c.requires.inverting.2 (c.args.first + b));
-      weights_in = λ b fits. subst (λ (n : ℕ). AllWithin (2 ^ (n + 2)) (weights_of g.row.Q b c.invert_steps.new.room.weights)) (omega_same g e b fits)
-          (did.weights_in done b fits);
-      offsets = λ p d inv b i fits low high.
-          let columns = ap (λ (s : Sizes). s.columns) inv.alike.shape in
-          c.turn_back.ensures i b (omega (arith, high, c.requires.last)) fits
-          ∙ (found p d inv).offsets i b (omega (arith, low)) high fits (omega (arith, low)) (omega (arith, high, c.requires.inside, columns));
+      weights_in = λ b fits. subst (λ (n : ℕ). AllWithin (2 ^ (n + 2)) (weights_of g.row.Q b (rows_at_end lanes ends weights b))) (omega_same g e b fits)
+          (at_end (λ (rows : List (List ℤ)). AllWithin (2 ^ (c.args.form.step.omega + 2)) (weights_of g.row.Q b rows)) lanes b ends weights
+          (λ before. end.ends_in b (rw whole before)) (λ after. end.weights_in b fits));
+      offsets = λ p d inv b i fits low high right.
+          c.turn_back.ensures i b (below_64 i last high c.requires.last.1) fits
+          ∙ offsets_found (end.inverted p settings d c.args.first c.args.y origin (constant p d inv) far (start p d inv)) (ap (λ (s : Sizes). s.columns) inv.alike.shape)
+          b i fits low high right;
       weights_at = λ p d inv b fits.
-          let columns = ap (λ (s : Sizes). s.columns) inv.alike.shape in
-          ap (λ (n : ℕ). take n (weights_of g.row.Q b c.invert_steps.new.room.weights)) (sym (count_is (begun g e) inv b fits))
-          ∙ ((found p d inv).weights_at b fits (omega (arith, c.requires.inside, columns))).weights
-          ∙ ap (λ (n : ℕ). weight_vector p d (c.args.first + b) (c.args.y * n + column_at c.args.origin c.args.last b)) (sym columns);
+          weights_found (end.inverted p settings d c.args.first c.args.y origin (constant p d inv) far (start p d inv)) (ap (λ (s : Sizes). s.columns) inv.alike.shape)
+          ends b _ fits inside.1 (count_is (begun g e) inv b fits)
+          (end.kept p settings d c.args.first c.args.y origin (constant p d inv) far (start p d inv) b);
     }
