@@ -9,10 +9,11 @@ ghost use Rattle.file_encoding.specs.Walks.{AreFresh, IsSeen};
 ghost use Rattle.coder_pipe.specs.Sends.{part_of};
 
 use crate::plan::Plan;
-use crate::predict_lane::predict_lane;
+use crate::predict_lane::predict_with_room;
 use band_rings::sender::LaneSender;
 use cube_core::cube::Cube;
 use cube_core::fault::Fault;
+use file_encoding::walk::shared_planes_room;
 use lane_workers::feed::{Feed, LaneEnd};
 use lane_workers::gate::Gate;
 use predict_core::band::Band;
@@ -20,13 +21,14 @@ use std::alloc::Global;
 use std::marker::Model;
 use std::sync::Wait;
 
-/// A predictor of a plan, with its bands, before it reads a cube.
+/// A predictor of a plan, with its bands and with room for planes, before it reads a cube.
 #[derive(Drop)]
 pub struct CubeFeed<'a> {
     cube: &'a Cube,
     plan: &'a Plan,
     predictor: u32,
     bands: Vec<Band>,
+    planes: Vec<u16>,
 }
 
 impl<'a> Model for CubeFeed<'a> {
@@ -51,15 +53,18 @@ impl<'a> Feed for CubeFeed<'a> {
             plan,
             predictor,
             bands,
+            mut planes,
         } = self;
-        predict_lane(rt, cube, plan, predictor, bands, sender, gate)
+        let room = &mut planes;
+        predict_with_room(rt, cube, plan, predictor, bands, room, sender, gate)
     }
 }
 
 /// Returns a feed for each predictor of a plan, in order. Each sends its predictor's part of the residuals of a
 /// cube.
 ///
-/// The cube has the plan's shape and kind. Returns `WantOfMemory` if the predictors' state can't be allocated.
+/// The cube has the plan's shape and kind. Returns `WantOfMemory` if the predictors' state can't be allocated. Room for planes is done
+/// without where it can't be.
 pub fn cube_feeds<'a>(
     alloc: Global,
     cube: &'a Cube,
@@ -76,6 +81,7 @@ pub fn cube_feeds<'a>(
             plan,
             predictor,
             bands: own_bands(alloc, plan, predictor)?,
+            planes: shared_planes_room(alloc, plan.params(), plan.predictors()),
         })?;
     }
     Ok(feeds)

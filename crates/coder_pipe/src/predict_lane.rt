@@ -37,19 +37,34 @@ pub fn predict_lane<R: Wait, G: Gate>(
     ensures { Keeps (G.may_stop gate.now) predictor (part predictor (owners plan.now.deal plan.now.params) (residuals plan.now.params cube.now)) sender.lane
         result }
 {
+    predict_with_room(rt, cube, plan, predictor, bands, &mut [], sender, gate)
+}
+
+/// `predict_lane` with room for planes, of any length: where band comes after band, as many bands at a time are predicted as it has
+/// room for.
+pub(crate) fn predict_with_room<R: Wait, G: Gate>(
+    rt: &R,
+    cube: &Cube,
+    plan: &Plan,
+    predictor: u32,
+    bands: Vec<Band>,
+    room: &mut [u16],
+    sender: LaneSender,
+    gate: &G,
+) -> LaneEnd
+    requires image { IsSeen plan.now.params cube.now }
+    requires bands { AreFresh plan.now.params predictor plan.now.deal cube.now bands.items }
+    requires sent { sender.sent ≡ [] }
+    ensures { Keeps (G.may_stop gate.now) predictor (part predictor (owners plan.now.deal plan.now.params) (residuals plan.now.params cube.now)) sender.lane
+        result }
+{
     plan.prove_is_plan();
     let _count = cube.shape().sample_count();
     let mut bands = bands;
     let mut taker = LaneTaker::new(rt, predictor, sender, gate);
     let (params, deal) = (plan.params(), plan.deal());
     let _all = send_own(
-        cube,
-        params,
-        predictor,
-        deal,
-        &mut bands,
-        &mut [],
-        &mut taker,
+        cube, params, predictor, deal, &mut bands, room, &mut taker,
     );
     taker.end()
 }

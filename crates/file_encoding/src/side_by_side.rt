@@ -1,4 +1,4 @@
-//! Bands that go over a row side by side: the first one's residuals are sent, and those of the others are kept.
+//! Bands that go over a row side by side: the first one's residuals are sent and those of the others are kept, or those of all.
 
 ghost use Rattle.std.specs.Prelude.{◌≡◌, ℕ, ◌+◌, ◌*◌, ◌-◌, ◌<◌, ◌≤◌, ◌∷◌, [], ◌++◌, length, take, slice_index_or, IsTrue};
 ghost use Rattle.predict_core.specs.Following.{PredictorState};
@@ -51,23 +51,77 @@ pub(crate) fn send_first_row<T: Taker>(
         if !taker.take(bands[0].piece_residuals(count as usize)) {
             return false;
         }
-        keep_pieces(start + x as usize, count as usize, stretch, bands, room);
+        keep_pieces(
+            start + x as usize,
+            count as usize,
+            stretch,
+            1,
+            bands,
+            room,
+        );
         x += count;
     }
     true
 }
 
-/// Keeps the residuals that all bands but the first hold of `count` places, in the stretch of each from number `first` on.
-fn keep_pieces(first: usize, count: usize, stretch: usize, bands: &[Band], room: &mut [u16])
+/// Keeps the residuals of some bands in row `y`.
+///
+/// Each has a stretch of the room, of `stretch` numbers, band after band; its residuals are written there from number `start` on.
+pub(crate) fn keep_row(
+    cube: &Cube,
+    params: &Params,
+    y: u32,
+    start: usize,
+    stretch: usize,
+    bands: &mut [Band],
+    room: &mut [u16],
+    group: &mut GroupRoom,
+)
+    requires image { IsSeen params.now cube.now }
+    requires row { y < cube.now.shape.rows }
+    requires inside { start + cube.now.shape.columns ≤ stretch }
+    requires room { length bands.old * stretch ≤ length room.old }
+    requires at { AreAt params.now cube.now (y * cube.now.shape.columns) bands.old }
+    ensures kept { (k : ℕ) → k < length bands.old → row_start stretch k (start + cube.now.shape.columns) room.new
+        ≡ row_start stretch k start room.old ++ row_of params.now cube.now (slice_index_or (bands_of bands.old) k 0 ∷ []) y }
+    ensures at { AreAt params.now cube.now ((y + 1) * cube.now.shape.columns) bands.new }
+    ensures same { bands_of bands.new ≡ bands_of bands.old }
+{
+    let columns = cube.shape().columns();
+    let mut x = 0;
+    while x < columns {
+        let count = PIECE.min(columns - x);
+        predict_pieces(cube, params, y, x, count, bands, group);
+        keep_pieces(
+            start + x as usize,
+            count as usize,
+            stretch,
+            0,
+            bands,
+            room,
+        );
+        x += count;
+    }
+}
+
+/// Keeps the residuals that all bands but the first `others` hold of `count` places, in the stretch of each from number `first` on.
+fn keep_pieces(
+    first: usize,
+    count: usize,
+    stretch: usize,
+    others: usize,
+    bands: &[Band],
+    room: &mut [u16],
+)
     requires piece { count ≤ 64 }
     requires inside { first + count ≤ stretch }
-    requires some { 1 ≤ length bands.now }
-    requires room { (length bands.now - 1) * stretch ≤ length room.old }
-    ensures { (k : ℕ) (b : PredictorState) → k + 1 < length bands.now
-        → row_start stretch k (first + count) room.new ≡ row_start stretch k first room.old ++ take count (slice_index_or bands.now (k + 1) b).piece }
+    requires some { others ≤ length bands.now }
+    requires room { (length bands.now - others) * stretch ≤ length room.old }
+    ensures { (k : ℕ) (b : PredictorState) → k + others < length bands.now
+        → row_start stretch k (first + count) room.new ≡ row_start stretch k first room.old ++ take count (slice_index_or bands.now (k + others) b).piece }
 {
-    for k in 0..bands.len() - 1 {
+    for k in 0..bands.len() - others {
         let start = k * stretch + first;
-        room[start..start + count].copy_from_slice(bands[k + 1].piece_residuals(count));
+        room[start..start + count].copy_from_slice(bands[k + others].piece_residuals(count));
     }
 }

@@ -168,11 +168,33 @@ pub fn planes_room(alloc: Global, params: &Params) -> Vec<u16>
     ensures seven { vec_len result ≤ 7 * (params.now.shape.rows * params.now.shape.columns) }
     ensures half { 2 * vec_len result ≤ params.now.shape.bands * (params.now.shape.rows * params.now.shape.columns) }
 {
+    room_of_planes(alloc, params, params.shape.bands().min(14) / 2)
+}
+
+/// Returns such room for one of `predictors` threads that share the bands. It has room for eight planes where together they have at
+/// least sixteen bands each, so that `send_own` predicts eight bands before it sends the first.
+///
+/// There is room for at most eight bands, and for no more than half of the image's in all threads together.
+pub fn shared_planes_room(alloc: Global, params: &Params, predictors: u32) -> Vec<u16>
+    requires some { 1 ≤ predictors }
+    ensures eight { vec_len result ≤ 8 * (params.now.shape.rows * params.now.shape.columns) }
+    ensures half { 2 * (predictors * vec_len result) ≤ params.now.shape.bands * (params.now.shape.rows * params.now.shape.columns) }
+{
+    let share = params.shape.bands() / predictors;
+    room_of_planes(alloc, params, share.min(16) / 2)
+}
+
+/// Returns room for the planes of `kept` bands where band comes after band. It is empty in another order, and where it can't be
+/// allocated.
+fn room_of_planes(alloc: Global, params: &Params, kept: u32) -> Vec<u16>
+    requires few { kept ≤ 8 }
+    ensures { vec_len result ≤ kept * (params.now.shape.rows * params.now.shape.columns) }
+{
     let mut room = Vec::new(alloc);
     if params.order == Order::Bsq {
         let shape = params.shape;
-        let kept = shape.bands().min(14) as usize / 2;
-        let _had = room.resize(kept * (shape.rows() as usize * shape.columns() as usize), 0);
+        let plane = shape.rows() as usize * shape.columns() as usize;
+        let _had = room.resize(kept as usize * plane, 0);
     }
     room
 }

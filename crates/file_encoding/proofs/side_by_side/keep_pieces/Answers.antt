@@ -14,8 +14,8 @@ loop-k-preserved c =
     let i = c.loop-k.k in let stretch = c.args.stretch in let start = i * stretch + c.args.first in
     let copied : numbers ≡ c.piece_residuals.result.now = c.copy_from_slice.ensures.after in
     let long : length numbers ≡ c.args.count = ap (λ (v : List ℕ). length v) copied ∙ told.long in
-    let low : suc i * stretch ≤ (length c.args.bands.now - 1) * stretch =
-    mul-le (suc i) stretch (length c.args.bands.now - 1) stretch (omega arith) (omega arith) in
+    let low : suc i * stretch ≤ (length c.args.bands.now - c.args.others) * stretch =
+    mul-le (suc i) stretch (length c.args.bands.now - c.args.others) stretch (omega arith) (omega arith) in
     let fits : start ≤ length c.loop-k.room = omega (arith, low, c.requires.inside, c.requires.room, c.loop-k.auto.room) in
     let many = start + c.args.count - start in
     let size : many ≡ c.args.count = omega arith in
@@ -26,7 +26,7 @@ loop-k-preserved c =
       kept = λ k b lt. elim (cases_lt k i) [
         | inl h ↦ before k h ∙ was.kept k b h
         | inr h ↦ let here : k ≡ i = omega (arith, lt, h) in
-            let band = c.index-bands-k.is ∙ get_or_default c.args.bands.now (i + 1) c.index-bands-k.result b (omega arith) in
+            let band = c.index-bands-k.is ∙ get_or_default c.args.bands.now (i + c.args.others) c.index-bands-k.result b (omega arith) in
             rw here (more ∙ ap₂ (λ ns ms. ns ++ ms) (ap (λ (ns : List ℕ). take c.args.first ns) (was.left i (omega arith)))
             (copied ∙ told.value ∙ ap (λ (r : PredictorState). take c.args.count r.piece) band))
       ];

@@ -4,7 +4,7 @@ use Rattle.cube_core.specs.Order.{upto}
 use Rattle.file_encoding.specs.Own.{row_of}
 use Rattle.file_encoding.specs.Pieces.{row_start}
 use Rattle.file_encoding.specs.Walks.{AreAt, bands_of}
-use Rattle.file_encoding.proofs.each_plane.send_next_planes.Given as goal
+use Rattle.file_encoding.proofs.each_plane.send_first_plane.Given as goal
 
 abbrev pub invariant-loop-y : goal.invariant-loop-y
 invariant-loop-y g l = record {

@@ -7,9 +7,9 @@ use Rattle.file_encoding.specs.Pieces.{row_start}
 use Rattle.file_encoding.specs.Walks.{bands_of}
 use Rattle.file_encoding.proofs.Sending.{Steps, at_same, front_piece, none_yet, stepped, upto_rest}
 use Rattle.file_encoding.proofs.KeptRows.{first_and_rest, kept_rows, others_sent}
-use Rattle.file_encoding.proofs.each_plane.send_next_planes.Goals as goal
-use Rattle.file_encoding.proofs.each_plane.send_next_planes.Goals.{In-loop-y, After-loop-y}
-use Rattle.file_encoding.proofs.each_plane.send_next_planes.Given.{Over}
+use Rattle.file_encoding.proofs.each_plane.send_first_plane.Goals as goal
+use Rattle.file_encoding.proofs.each_plane.send_first_plane.Goals.{In-loop-y, After-loop-y}
+use Rattle.file_encoding.proofs.each_plane.send_first_plane.Given.{Over}
 
 module _ (g : Over) (c : In-loop-y g) where
   abbrev row : ℕ → ℕ → List ℕ

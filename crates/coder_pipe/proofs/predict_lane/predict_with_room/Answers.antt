@@ -5,7 +5,7 @@ use Rattle.file_encoding.specs.Own.{own_residuals}
 use Rattle.coder_pipe.specs.Sends.{MaySend}
 use Rattle.file_encoding.proofs.Owning.{own_is_part}
 use Rattle.coder_pipe.proofs.Parts.{own_few, keeps_part}
-use Rattle.coder_pipe.proofs.predict_lane.predict_lane.Goals as goal
+use Rattle.coder_pipe.proofs.predict_lane.predict_with_room.Goals as goal
 
 pub send_own-all-requires-clause-may : goal.send_own-all-requires-clause-may
 send_own-all-requires-clause-may g c =
