@@ -63,8 +63,6 @@ pub(crate) fn predict_with_room<R: Wait, G: Gate>(
     let mut bands = bands;
     let mut taker = LaneTaker::new(rt, predictor, sender, gate);
     let (params, deal) = (plan.params(), plan.deal());
-    let _all = send_own(
-        cube, params, predictor, deal, &mut bands, room, &mut taker,
-    );
+    let _all = send_own(cube, params, predictor, deal, &mut bands, room, &mut taker);
     taker.end()
 }

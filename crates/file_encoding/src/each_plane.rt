@@ -99,7 +99,16 @@ fn send_all_planes<T: Taker>(
     let columns = shape.columns() as usize;
     let plane = shape.rows() as usize * columns;
     for y in 0..shape.rows() {
-        keep_row(cube, params, y, y as usize * columns, plane, bands, room, group);
+        keep_row(
+            cube,
+            params,
+            y,
+            y as usize * columns,
+            plane,
+            bands,
+            room,
+            group,
+        );
     }
     taker.take(&room[..bands.len() * plane])
 }

@@ -51,14 +51,7 @@ pub(crate) fn send_first_row<T: Taker>(
         if !taker.take(bands[0].piece_residuals(count as usize)) {
             return false;
         }
-        keep_pieces(
-            start + x as usize,
-            count as usize,
-            stretch,
-            1,
-            bands,
-            room,
-        );
+        keep_pieces(start + x as usize, count as usize, stretch, 1, bands, room);
         x += count;
     }
     true
@@ -92,14 +85,7 @@ pub(crate) fn keep_row(
     while x < columns {
         let count = PIECE.min(columns - x);
         predict_pieces(cube, params, y, x, count, bands, group);
-        keep_pieces(
-            start + x as usize,
-            count as usize,
-            stretch,
-            0,
-            bands,
-            room,
-        );
+        keep_pieces(start + x as usize, count as usize, stretch, 0, bands, room);
         x += count;
     }
 }
