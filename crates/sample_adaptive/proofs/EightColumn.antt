@@ -1,5 +1,5 @@
 -- Eight residuals of a column that are read at once.
-use Rattle.std.proofs.Common.{◌≡◌, ◌+◌, ◌^◌, ◌<◌, ◌≤◌, ℕ, zero, suc, Bool, List, length, take, get_or, set, refl, sym, ap, ◌∙◌, inl, inr, arith, subst}
+use Rattle.std.proofs.Common.{◌≡◌, ◌+◌, ◌^◌, ◌<◌, ◌≤◌, ℕ, zero, suc, Bool, List, length, get_or, set, refl, sym, ap, ◌∙◌, inl, inr, arith, subst}
 use Rattle.std.proofs.lemmas.Bool.{cases_eq, ne_eqb}
 use Rattle.std.proofs.lemmas.List.{get_or-set_same, get_or-set_other, set-get_or}
 use Rattle.header_bits.specs.Bits.{Unread}
@@ -30,11 +30,6 @@ one_put_more xs numbers i j inside before k lt =
       | inl e ↦ subst (λ k. get_or (set xs (i + j) (number numbers j)) (i + k) 0 ≡ number numbers k) (sym e) (get_or-set_same xs (i + j) (number numbers j) 0 inside)
       | inr other ↦ get_or-set_other xs (i + j) (i + k) (number numbers j) 0 (λ e. other (omega (arith, e))) ∙ before k (omega (arith, lt, other))
     ]
-
--- the first residuals of a list are all that counts of it so far
-pub same_start : (zs ts : ℕ → ℕ) (index i : ℕ) (v w : CoderState) (first now : Unread) (residuals others : List ℕ) → take i others ≡ take i residuals
-    → Reaches zs ts 0 index i v w first now residuals → Reaches zs ts 0 index i v w first now others
-same_start zs ts index i v w first now residuals others same h = record { append = λ r new left ys rest. rw same (h.append r new left ys rest) }
 
 pub unread_same : (u : Unread) (n : ℕ) → u.count ≡ n → record { count = n; left = u.left } ≡ u
 unread_same u n e = rw (← e) refl

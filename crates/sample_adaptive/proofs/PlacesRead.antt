@@ -63,6 +63,11 @@ starts {k = k} {index = index} same = record {
       rw (here, there, same) at rest;
 }
 
+-- the first residuals of a list are all that counts of it so far
+pub same_start : (zs ts : ℕ → ℕ) (k index i : ℕ) (v w : CoderState) (first now : Unread) (residuals others : List ℕ) → take i others ≡ take i residuals
+    → Reaches zs ts k index i v w first now residuals → Reaches zs ts k index i v w first now others
+same_start zs ts k index i v w first now residuals others same h = record { append = λ r new left ys rest. rw same (h.append r new left ys rest) }
+
 module _ {zs ts : ℕ → ℕ} {k index i : ℕ} {v w : CoderState} {first was : Unread} {residuals : List ℕ} (h : Reaches zs ts k index i v w first was residuals) where
   pub steps : {next : CoderState} {residual : ℕ} {now : Unread} → zs (k + i) < length w.bands → i < length residuals
       → word_at was.count (index + i) (code_by w (zs (k + i)) (ts (k + i))) was.left ≡ Ok (residual, now.left) → now.count ≡ was.count

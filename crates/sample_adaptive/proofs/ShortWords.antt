@@ -6,7 +6,7 @@ use Rattle.std.specs.Int.Bits.{bit_or, bit_and, or_zero_l, or_zero_r}
 use Rattle.std.specs.Int.Count.{count_leading_zeros}
 use Rattle.std.proofs.lemmas.Bool.{lt-ltb}
 use Rattle.std.proofs.lemmas.Nat.{or_shr, or_mod, and_mask, and_le_r, pow_below, pow-add, pow_pos, mul-le}
-use Rattle.std.proofs.Math.Nat.{pow-succ', div-eq_of_lt, mod-eq_of_lt, mod-lt, mul-mod_left}
+use Rattle.std.proofs.Math.Nat.{pow-succ', div-eq_of_lt, div-lt_iff_lt-mul, mod-eq_of_lt, mod-lt, mul-mod_left}
 use Rattle.std.proofs.Math.Pow.{pow_mono}
 use Rattle.std.proofs.lemmas.List.{drop-drop}
 use Rattle.header_bits.specs.Bits.{bits_of}
@@ -46,6 +46,25 @@ ahead_after most length bits word few h = λ n le.
     ap (bits_of n) (highest_shifted word length n (omega arith)) ∙ bits_of-mod n n there (omega arith) in
     let later : rest ≡ drop n (drop length bits) = sym (drop-drop n length bits) in
     rw same (front ∙ ap (λ (x : List Bool). bits_of n there ++ x) later)
+
+-- the bits after the first ones, where these are turned to the end
+pub ahead_turned : (most far : ℕ) (bits : List Bool) (word : ℕ) → 1 ≤ far → far < 64 → most + far ≤ 64 → word < 2 ^ 64 → IsAhead (most + far) bits word
+    → IsAhead most (drop far bits) (rotate_left w64 word far)
+ahead_turned most far bits word some few le below h = λ n within.
+    let front : ℕ = word * 2 ^ far % 2 ^ 64 in
+    let back : ℕ = word / 2 ^ (64 - far) in
+    let left : far % 64 ≡ far = mod-eq_of_lt few in
+    let right : (64 - far) % 64 ≡ 64 - far = mod-eq_of_lt (omega (arith, some)) in
+    let is : rotate_left w64 word far ≡ bit_or front back = rw (left, right) refl in
+    let all : 64 - far + far ≡ 64 = omega (arith, few) in
+    let power : 2 ^ 64 ≡ 2 ^ (64 - far) * 2 ^ far = ap (λ j. 2 ^ j) (sym all) ∙ pow-add 2 (64 - far) far in
+    let turned : 2 ^ (64 - far) * 2 ^ far ≡ 2 ^ far * 2 ^ (64 - far) = grind arith in
+    let short : back < 2 ^ far = (div-lt_iff_lt-mul (pow_pos (64 - far))).1 (omega (arith, below, power, turned)) in
+    let small : 2 ^ far ≤ 2 ^ (64 - n) = pow_mono {i = far} {j = 64 - n} (omega (arith, le, within)) in
+    let none : back / 2 ^ (64 - n) ≡ 0 = div-eq_of_lt (omega (arith, short, small)) in
+    let same : rotate_left w64 word far / 2 ^ (64 - n) ≡ front / 2 ^ (64 - n) =
+    ap (λ x. x / 2 ^ (64 - n)) is ∙ or_shr front back (64 - n) ∙ ap (bit_or (front / 2 ^ (64 - n))) none ∙ or_zero_r (front / 2 ^ (64 - n)) in
+    rw same (ahead_after most far bits word le h n within)
 
 -- the zeros that lead the word, and the one after them
 run_ahead : (count limit most : ℕ) (bits : List Bool) (word run : ℕ) → word < 2 ^ 64 → most ≤ 64 → IsAhead most bits word → run + 1 ≤ most

@@ -1,17 +1,15 @@
 -- Code words that are taken apart one after another.
-use Rattle.std.proofs.Common.{◌≡◌, bit_or, ℕ, zero, suc, ◌+◌, ◌-◌, ◌*◌, ◌/◌, ◌%◌, ◌^◌, ◌<◌, ◌≤◌, Bool, List, drop, length, set, refl, sym, ap, subst, ◌∙◌, arith}
+use Rattle.std.proofs.Common.{◌≡◌, ℕ, zero, suc, ◌+◌, ◌-◌, ◌*◌, ◌/◌, ◌%◌, ◌^◌, ◌<◌, ◌≤◌, Bool, List, drop, length, set, refl, sym, ap, subst, ◌∙◌, arith}
 use Rattle.std.specs.Int.{rotate_left, w64}
-use Rattle.std.specs.Int.Bits.{or_zero_r}
 use Rattle.std.specs.Int.Count.{count_leading_zeros}
 use Rattle.std.proofs.lemmas.List.{get_or-set_same, get_or-set_other}
-use Rattle.std.proofs.lemmas.Nat.{and_mask, or_shr, pow-add, pow_pos}
-use Rattle.std.proofs.Math.Nat.{div-eq_of_lt, div-lt_iff_lt-mul, mod-eq_of_lt}
-use Rattle.std.proofs.Math.Pow.{mod-mod-pow, pow_mono}
+use Rattle.std.proofs.lemmas.Nat.{and_mask}
+use Rattle.std.proofs.Math.Pow.{mod-mod-pow}
 use Rattle.header_bits.specs.Windows.{IsAhead}
 use Rattle.lanes.specs.Lanes.{number}
 use Rattle.sample_adaptive.specs.declared.word_parts.WordParts.{WordParts}
 use Rattle.sample_adaptive.specs.WordParts.{InSteps, IsPartNext, IsPlainNext}
-use Rattle.sample_adaptive.proofs.ShortWords.{ahead_after, low_rotated, short_ahead}
+use Rattle.sample_adaptive.proofs.ShortWords.{low_rotated, short_ahead}
 
 -- ---- steps
 
@@ -50,25 +48,6 @@ plain_next left most word zeros ending k below few ahead is within ends small = 
     let whole : zeros * 2 ^ c.k + ending % 2 ^ c.k < 2 ^ c.bits = subst (λ n. zeros * 2 ^ n + ending % 2 ^ n < 2 ^ c.bits) (sym same) fits in
     let read = short_ahead count index c most left word zeros (ending % 2 ^ c.k) code below (omega (arith, few)) ahead is lt (omega (arith, long, within)) low whole in
     rw (long, ← same) read
-
--- the bits after the first ones, where these are turned to the end
-pub ahead_turned : (most far : ℕ) (bits : List Bool) (word : ℕ) → 1 ≤ far → far < 64 → most + far ≤ 64 → word < 2 ^ 64 → IsAhead (most + far) bits word
-    → IsAhead most (drop far bits) (rotate_left w64 word far)
-ahead_turned most far bits word some few le below h = λ n within.
-    let front : ℕ = word * 2 ^ far % 2 ^ 64 in
-    let back : ℕ = word / 2 ^ (64 - far) in
-    let left : far % 64 ≡ far = mod-eq_of_lt few in
-    let right : (64 - far) % 64 ≡ 64 - far = mod-eq_of_lt (omega (arith, some)) in
-    let is : rotate_left w64 word far ≡ bit_or front back = rw (left, right) refl in
-    let all : 64 - far + far ≡ 64 = omega (arith, few) in
-    let power : 2 ^ 64 ≡ 2 ^ (64 - far) * 2 ^ far = ap (λ j. 2 ^ j) (sym all) ∙ pow-add 2 (64 - far) far in
-    let turned : 2 ^ (64 - far) * 2 ^ far ≡ 2 ^ far * 2 ^ (64 - far) = grind arith in
-    let short : back < 2 ^ far = (div-lt_iff_lt-mul (pow_pos (64 - far))).1 (omega (arith, below, power, turned)) in
-    let small : 2 ^ far ≤ 2 ^ (64 - n) = pow_mono {i = far} {j = 64 - n} (omega (arith, le, within)) in
-    let none : back / 2 ^ (64 - n) ≡ 0 = div-eq_of_lt (omega (arith, short, small)) in
-    let same : rotate_left w64 word far / 2 ^ (64 - n) ≡ front / 2 ^ (64 - n) =
-    ap (λ x. x / 2 ^ (64 - n)) is ∙ or_shr front back (64 - n) ∙ ap (bit_or (front / 2 ^ (64 - n))) none ∙ or_zero_r (front / 2 ^ (64 - n)) in
-    rw same (ahead_after most far bits word le h n within)
 
 -- ---- parts of words, in lanes
 

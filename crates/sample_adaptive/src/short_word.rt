@@ -83,10 +83,10 @@ impl ShortWords {
         if zeros >= self.zeros {
             return None;
         }
-        // The low bits are the last ones of the word, which a rotation puts at the end.
+        // The bits are turned until those after the word come first: then its low bits come last.
         let length = zeros + self.after;
-        let low = ahead.rotate_left(length) & u64::from(self.power - 1);
-        *bits = ahead << length;
+        *bits = ahead.rotate_left(length);
+        let low = *bits & u64::from(self.power - 1);
         reader.skip(u64::from(length));
         Some(zeros * self.power + low as u32)
     }
@@ -125,8 +125,8 @@ pub(crate) fn take_short_word(
     if zeros >= code.limit {
         return None;
     }
-    let low = ahead.rotate_left(length) & u64::from(power - 1);
-    *bits = ahead << length;
+    *bits = ahead.rotate_left(length);
+    let low = *bits & u64::from(power - 1);
     reader.skip(u64::from(length));
     Some(zeros * power + low as u32)
 }

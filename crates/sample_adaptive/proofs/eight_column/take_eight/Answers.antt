@@ -3,8 +3,9 @@ use Rattle.header_bits.specs.Bits.{Unread}
 use Rattle.sample_adaptive.specs.BandStates.{statistics_of}
 use Rattle.sample_adaptive.specs.Statistics.{AreStatistics}
 use Rattle.sample_adaptive.proofs.Counting.{next_in_range}
-use Rattle.sample_adaptive.proofs.EightColumn.{lanes_reached, same_start, unread_same}
+use Rattle.sample_adaptive.proofs.EightColumn.{lanes_reached, unread_same}
 use Rattle.sample_adaptive.proofs.LaneStates.{lane_states}
+use Rattle.sample_adaptive.proofs.PlacesRead.{same_start}
 use Rattle.sample_adaptive.proofs.eight_column.take_eight.Goals as goal
 
 pub returns-clause-taken : goal.returns-clause-taken
@@ -13,7 +14,7 @@ returns-clause-taken c = λ v t index first some has was.
     let residuals = c.put_numbers.new.residuals in
     let reader = c.read_bands.new.reader in
     let put = c.put_numbers.ensures in
-    let start = same_start (λ i. c.args.z + i) (λ i. t) index c.args.i v (record v { bands = statistics_of c.args.bands.now }) first c.args.reader.now c.args.residuals.now residuals
+    let start = same_start (λ i. c.args.z + i) (λ i. t) 0 index c.args.i v (record v { bands = statistics_of c.args.bands.now }) first c.args.reader.now c.args.residuals.now residuals
     put.before was in
     let reached = lanes_reached c.args.settings c.args.z t index c.args.i read.counter read.accumulators read.numbers residuals c.args.bands.now v first c.args.reader.now 8 reader.left
     some has (omega (arith, put.long, c.requires.within)) (omega (arith, c.requires.inside, c.requires.within)) put.numbers c.in-Some.ensures.statistics start

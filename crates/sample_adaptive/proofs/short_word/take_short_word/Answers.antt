@@ -1,7 +1,7 @@
 use Rattle.std.proofs.Common.{◌+◌, ◌≤◌, refl, arith}
 use Rattle.std.specs.Int.Count.{count_leading_zeros}
 use Rattle.header_bits.proofs.Ahead.{ahead_length}
-use Rattle.sample_adaptive.proofs.ShortWords.{ahead_after, fewer_ahead, few_zeros_fit, word_taken}
+use Rattle.sample_adaptive.proofs.ShortWords.{ahead_turned, fewer_ahead, few_zeros_fit, word_taken}
 use Rattle.sample_adaptive.proofs.short_word.take_short_word.Goals as goal
 
 pub skip-requires : goal.skip-requires
@@ -28,6 +28,6 @@ returns-clause-ahead c = λ more few h.
     let left = c.args.reader.now.left in
     let length = count_leading_zeros 64 ahead.result + 1 + c.args.code.k in
     let short : length ≤ c.args.most = c.if-length-most.false in
-    rw (c.skip.ensures.left, c.from-2.ensures)
-    (ahead_after more length left ahead.result (omega (arith, few, short))
+    rw (c.skip.ensures.left, c.from-2.ensures, c.rotate_left.ensures)
+    (ahead_turned more length left ahead.result (omega arith) (omega (arith, few, short)) (omega (arith, few, short)) ahead.type_inv
     (ahead.ensures left (more + length) (omega (arith, few, short)) (fewer_ahead (more + c.args.most) (more + length) left c.args.bits.now (omega (arith, short)) h)))

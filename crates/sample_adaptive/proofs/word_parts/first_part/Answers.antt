@@ -1,6 +1,7 @@
 use Rattle.std.proofs.Common.{◌≡◌, ◌+◌, ◌-◌, ◌%◌, refl, ap, arith}
 use Rattle.std.specs.Int.Count.{count_leading_zeros}
-use Rattle.sample_adaptive.proofs.WordParts.{ahead_turned, plain_next}
+use Rattle.sample_adaptive.proofs.ShortWords.{ahead_turned}
+use Rattle.sample_adaptive.proofs.WordParts.{plain_next}
 use Rattle.sample_adaptive.proofs.word_parts.first_part.Goals as goal
 
 pub returns-clause-word : goal.returns-clause-word

@@ -1,7 +1,7 @@
 use Rattle.std.proofs.Common.{◌≡◌, ◌+◌, ◌≤◌, refl, arith}
 use Rattle.std.specs.Int.Count.{count_leading_zeros}
 use Rattle.header_bits.proofs.Ahead.{ahead_length}
-use Rattle.sample_adaptive.proofs.ShortWords.{ahead_after, fewer_ahead, short_taken, short_below}
+use Rattle.sample_adaptive.proofs.ShortWords.{ahead_turned, fewer_ahead, short_taken, short_below}
 use Rattle.sample_adaptive.proofs.short_word.ShortWords.take.Goals as goal
 
 pub skip-requires : goal.skip-requires
@@ -30,6 +30,6 @@ returns-clause-ahead c = λ more few h.
     let length = count_leading_zeros 64 ahead.result + 1 + c.args.self.code.k in
     let short : length ≤ c.args.self.most = omega (arith, c.if-zeros-self.false, c.args.self.within_length) in
     let same : count_leading_zeros 64 ahead.result + c.args.self.after ≡ length = omega (arith, c.args.self.after_is) in
-    rw (c.skip.ensures.left, c.from-2.ensures, same)
-    (ahead_after more length left ahead.result (omega (arith, few, short))
+    rw (c.skip.ensures.left, c.from-2.ensures, c.rotate_left.ensures, same)
+    (ahead_turned more length left ahead.result (omega arith) (omega (arith, few, short)) (omega (arith, few, short)) ahead.type_inv
     (ahead.ensures left (more + length) (omega (arith, few, short)) (fewer_ahead (more + c.args.self.most) (more + length) left c.args.bits.now (omega (arith, short)) h)))
