@@ -16,8 +16,11 @@ use header_bits::bit_reader::BitReader;
 use lanes::eight;
 use std::simd::prelude::*;
 
-/// Reads residuals `i` to `i + 7` of a column, none of which is the first of its band, if the bands from `z + i` on have this counter and their code words are seen
-/// whole by few loads and are no escapes. Returns 8, and updates the bands' statistics; or returns 0, and reads nothing.
+/// Reads residuals `i` to `i + 7` of a column, none of which is the first of its band, if the bands from `z + i` on have this counter and no word is
+/// an escape or so long that four of a load (three where D is above 12) aren't seen whole. Returns 8, and updates the bands' statistics; or
+/// returns 0, and changes nothing.
+///
+/// The code parameters of all eight are known beforehand, in lanes, and so are their sums afterwards; only the words go one by one.
 #[inline(always)]
 pub(crate) fn take_eight(
     settings: CodeSettings,

@@ -1,6 +1,6 @@
 //! Eight successive code words, taken apart before it is known whether they are lawful.
 
-ghost use Rattle.std.specs.Prelude.{◌≡◌, ◌+◌, ◌-◌, ◌*◌, ◌<◌, ◌≤◌, ℕ, List, Bool, drop, IsTrue};
+ghost use Rattle.std.specs.Prelude.{◌≡◌, ◌+◌, ◌-◌, ◌<◌, ◌≤◌, ℕ, List, Bool, drop, IsTrue};
 ghost use Rattle.header_bits.specs.Windows.{IsAhead};
 ghost use Rattle.lanes.specs.Lanes.{number};
 ghost use Rattle.sample_adaptive.specs.WordParts.{InSteps, IsPartNext, IsPlainNext};
@@ -20,10 +20,9 @@ pub(crate) struct WordParts {
     pub endings: [u32; 8],
 }
 
-/// Takes apart the eight words that come next, by their code parameters. Returns whether the words taken of each load lie in the bits that it sees: else nothing else
-/// holds.
+/// Takes apart the eight words that come next, by their code parameters. Returns whether each was seen whole; else nothing else holds.
 ///
-/// Where D is above 12, words are so long that only two or three are taken of a load.
+/// Four words are taken of one load, or three where D is above 12, since they are longer there.
 #[inline(always)]
 pub(crate) fn take_apart(
     bits: u32,
@@ -51,7 +50,7 @@ pub(crate) fn take_apart(
     take_few_apart(parameters, 6, 2, parts, reader)
 }
 
-/// Takes apart a few words that come next, from lane `first` on. Returns whether they lie in the bits that are seen at once.
+/// Takes apart a few words that come next, from lane `first` on, if they lie in the bits that are seen at once. Returns whether they do.
 ///
 /// No word is tested alone: lengths only add up, and so their sum at the end shows that each word was seen whole.
 #[inline(always)]
