@@ -163,7 +163,7 @@ module _ {q : ℕ} {f : Form} {p : Params} {s : ℕ → Settings} {d : Image} {f
     | inl low ↦
         (let at : column_at origin (k - lag + 8) (8 + b - lag) ≡ x = omega (arith, low, few, step.0) in
         let there = lanes.below (k - lag) (8 + b - lag) (omega (arith, few, step.0)) (omega (arith, step.1)) (omega (arith, low))
-        (rw at left) (rw at right) in
+        (omega (arith, used, lanes.previous)) (rw at left) (rw at right) in
         sym (lagged_low lower own k lag b low) ∙ there ∙ rw at (low_is lag few used low))
     | inr high ↦
         (let at : column_at origin (k - lag) (b - lag) ≡ x = omega (arith, high, few, step.0) in

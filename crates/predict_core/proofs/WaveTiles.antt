@@ -67,10 +67,10 @@ pub record IsBegun (q : ℕ) (f : Form) (c : Image) (bands : List PredictorState
   pub made : base.predictor ≡ (band_at bands first).predictor
   pub of-kind : base.range.kind ≡ (band_at bands first).kind
   pub of-columns : base.columns ≡ (band_at bands first).shape.columns
-  pub above_is : AreRowsOf c first 0 (y - 1) origin above
-  pub numbers_is : AreRowsOf c first 0 y origin numbers
-  pub lower_numbers_is : AreRowsOf c first 8 y origin lower_numbers
-  pub lower_above_is : AreRowsOf c first 8 (y - 1) origin lower_above
+  pub above_is : AreRowsOf c first 0 0 (y - 1) origin above
+  pub numbers_is : AreRowsOf c first 0 0 y origin numbers
+  pub lower_numbers_is : AreRowsOf c first 8 (8 - f.previous) y origin lower_numbers
+  pub lower_above_is : AreRowsOf c first 8 (8 - f.previous) (y - 1) origin lower_above
   pub lower_is : (i b : ℕ) → 1 ≤ i → i < 63 → b < 8 → place lower i b ≡ pos 4 *ℤ place lower_numbers i b -ℤ sum_at f.column lower_numbers lower_above i b
   pub own_is : (i b : ℕ) → 1 ≤ i → i < 8 → b < 8 → place own i b ≡ pos 4 *ℤ place numbers i b -ℤ sum_at f.column numbers above i b
   pub has : (b : ℕ) → b < 8 → HasWeights q b (band_at bands (first + b)) weights
@@ -139,13 +139,13 @@ module _ {q : ℕ} {f : Form} {c : Image} {bands : List PredictorState} {first y
 
   own_number : (i b : ℕ) → i < 64 → b < 8 → 7 + b ≤ origin + i → column_at origin i b < c.shape.columns
       → place numbers i b ≡ pos (number_at c (first + b) y (column_at origin i b))
-  own_number i b small fits low bound = let same : first + b - 0 ≡ first + b = omega arith in rw (none, same) at (k.numbers_is.numbers i b small fits (omega arith) (omega (arith, low)) (rw none bound))
+  own_number i b small fits low bound = let same : first + b - 0 ≡ first + b = omega arith in rw (none, same) at (k.numbers_is.numbers i b small fits (omega arith) (omega arith) (omega (arith, low)) (rw none bound))
 
   above_number : (i b : ℕ) → i < 64 → b < 8 → 7 + b ≤ origin + i → column_at origin i b < c.shape.columns
       → place above i b ≡ pos (number_at d (first + b) (y - 1) (column_at origin i b))
   above_number i b small fits low bound =
       let same : first + b - 0 ≡ first + b = omega arith in
-      rw (none, same) at (k.above_is.numbers i b small fits (omega arith) (omega (arith, low)) (rw none bound))
+      rw (none, same) at (k.above_is.numbers i b small fits (omega arith) (omega arith) (omega (arith, low)) (rw none bound))
       ∙ ap (λ (n : ℕ). pos n) (done_above (first + b) (column_at origin i b) (omega (arith, fits)) bound)
 
   place_of : (z x : ℕ) → z < first + 8 → x < c.shape.columns → IsPlace d.shape z y x
@@ -193,12 +193,12 @@ module _ {q : ℕ} {f : Form} {c : Image} {bands : List PredictorState} {first y
         nothing true = refl
         nothing false = refl
 
-    lower_some : 8 ≤ first + b → 0 < x → x + 1 < c.shape.columns → place lower i b ≡ central_difference base.predictor d (first + b - 8) y x
-    lower_some some left right =
+    lower_some : 8 ≤ f.previous + b → 8 ≤ first + b → 0 < x → x + 1 < c.shape.columns → place lower i b ≡ central_difference base.predictor d (first + b - 8) y x
+    lower_some used some left right =
         let z : ℕ = first + b - 8 in
-        let number = λ (j : ℕ) (h : j < 64) (m : 7 + b ≤ origin + 8 + j) (l : column_at (origin + 8) j b < c.shape.columns). k.lower_numbers_is.numbers j b h fits some m l
+        let number = λ (j : ℕ) (h : j < 64) (m : 7 + b ≤ origin + 8 + j) (l : column_at (origin + 8) j b < c.shape.columns). k.lower_numbers_is.numbers j b h fits (omega (arith, used)) some m l
         ∙ ap (λ (n : ℕ). pos n) (done_below z (column_at (origin + 8) j b) (omega (arith, some, fits)) l) in
-        let number_above = λ (j : ℕ) (h : j < 64) (m : 7 + b ≤ origin + 8 + j) (l : column_at (origin + 8) j b < c.shape.columns). k.lower_above_is.numbers j b h fits some m l
+        let number_above = λ (j : ℕ) (h : j < 64) (m : 7 + b ≤ origin + 8 + j) (l : column_at (origin + 8) j b < c.shape.columns). k.lower_above_is.numbers j b h fits (omega (arith, used)) some m l
         ∙ ap (λ (n : ℕ). pos n) (done_above z (column_at (origin + 8) j b) (omega (arith, some, fits)) l) in
         let before : column_at (origin + 8) (i - 1) b ≡ x - 1 = omega (arith, low) in
         let after : column_at (origin + 8) (i + 1) b ≡ x + 1 = omega (arith, left) in
@@ -218,11 +218,11 @@ module _ {q : ℕ} {f : Form} {c : Image} {bands : List PredictorState} {first y
   kind_is : d.kind ≡ base.range.kind
   kind_is = inv.cube.kind ∙ sym head.follows.made.kind ∙ sym k.of-kind
 
-  below_is : (i b : ℕ) → 1 ≤ i → i < last → b < 8 → 0 < column_at origin (i + 8) b → column_at origin (i + 8) b + 1 < d.shape.columns
+  below_is : (i b : ℕ) → 1 ≤ i → i < last → b < 8 → 8 ≤ f.previous + b → 0 < column_at origin (i + 8) b → column_at origin (i + 8) b + 1 < d.shape.columns
       → place lower i b ≡ (if nat_le 8 (first + b) then central_difference base.predictor d (first + b - 8) y (column_at origin (i + 8) b) else pos 0)
-  below_is i b low high fits left right = elim (cases_lt (first + b) 8) [
+  below_is i b low high fits used left right = elim (cases_lt (first + b) 8) [
     | inl out ↦ lower_none i b low (omega (arith, high, k.steps)) fits out ∙ sym (test_no (first + b) _ _ out)
-    | inr some ↦ lower_some i b low (omega (arith, high, k.steps)) fits some (rw (← column_is i b low (omega (arith, high, k.steps)) fits) left)
+    | inr some ↦ lower_some i b low (omega (arith, high, k.steps)) fits used some (rw (← column_is i b low (omega (arith, high, k.steps)) fits) left)
         (omega (arith, right, columns, column_is i b low (omega (arith, high, k.steps)) fits))
         ∙ ap (central_difference base.predictor d (first + b - 8) y) (sym (column_is i b low (omega (arith, high, k.steps)) fits))
         ∙ sym (test_yes (first + b) _ _ some)

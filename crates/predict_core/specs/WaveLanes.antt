@@ -31,8 +31,8 @@ first_column origin b = origin - b + 1
 abbrev pub first_step : ℕ → ℕ → ℕ
 first_step origin b = 8 + (b - origin)
 
--- the constants of the bands, and what doesn't change from step 8 to step `last`: the row above, the central differences of the eight bands below (0 where
--- there is no band), and the form
+-- the constants of the bands, and what doesn't change from step 8 to step `last`: the row above, the central differences of the previous bands below (0
+-- where there is no band), and the form
 pub record AreLanes (q : ℕ) (f : Form) (p : Params) (s : ℕ → Settings) (d : Image) (first y origin last : ℕ) (above lower : List (List ℤ)) : Type 0 where
   pub cube : IsCube d
   pub row : (0 < y) × (y < d.shape.rows)
@@ -53,7 +53,7 @@ pub record AreLanes (q : ℕ) (f : Form) (p : Params) (s : ℕ → Settings) (d 
   pub steps : (b k : ℕ) → b < 8 → column_at origin k b < d.shape.columns → AreStepsThere (s b) d f.step.omega f.step.bits f.step.exponent y (column_at origin k b)
   pub north : (i b : ℕ) → i ≤ last → b < 8 → 7 + b ≤ origin + i → column_at origin i b < d.shape.columns
       → place above i b ≡ pos (number_at d (first + b) (y - 1) (column_at origin i b))
-  pub below : (i b : ℕ) → 1 ≤ i → i < last → b < 8 → 0 < column_at origin (i + 8) b → column_at origin (i + 8) b + 1 < d.shape.columns
+  pub below : (i b : ℕ) → 1 ≤ i → i < last → b < 8 → 8 ≤ f.previous + b → 0 < column_at origin (i + 8) b → column_at origin (i + 8) b + 1 < d.shape.columns
       → place lower i b ≡ (if nat_le 8 (first + b) then central_difference (s 0).predictor d (first + b - 8) y (column_at origin (i + 8) b) else pos 0)
 
 -- what has been found before step k in the first n lanes, which have begun: the offsets of the bands up to there, from which their central differences come, and

@@ -90,7 +90,7 @@ fn invert_rows(
     }
 }
 
-/// Inverts row `y` of eight bands as a wavefront, but for both ends.
+/// Inverts row `y` of eight bands as a wavefront, but for its first and last column.
 fn invert_wave(
     bands: &mut [Band],
     first: usize,

@@ -13,11 +13,13 @@ use cube_core::cube::Cube;
 use lanes::turn::turn;
 
 /// Writes 64 rows of eight lanes: in row i, lane b has the offset at column `origin + below + i - 7 - b` of row `y` of the band that is
-/// `below` bands below band `first + b`, or 0 where there is no such band or column.
+/// `below` bands below band `first + b`, or 0 where there is no such band or column. Lanes before
+/// number `least` are left out.
 pub(crate) fn fill_rows(
     cube: &Cube,
     first: usize,
     below: usize,
+    least: usize,
     y: u32,
     origin: usize,
     lines: &mut [[i16; 64]; 8],
@@ -28,21 +30,22 @@ pub(crate) fn fill_rows(
     requires row { y < cube.now.shape.rows }
     requires origin { origin ≤ 65536 }
     requires bits { cube.now.kind.bits ≤ 12 }
-    ensures numbers { AreRowsOf cube.now first below y origin rows.new }
+    ensures numbers { AreRowsOf cube.now first below least y origin rows.new }
     ensures within { AreOffsetRows (pos (2 ^ cube.now.kind.bits) -ℤ pos 1) rows.new }
 {
     cube.prove_is_cube();
     for b in 0..8usize {
-        fill_line(cube, first + b, below, y, origin, b, lines);
+        fill_line(cube, first + b, below, least, y, origin, b, lines);
     }
     turn(lines, rows);
 }
 
-/// Writes line `b`: that of the band that is `below` bands below band `z`.
+/// Writes line `b`: that of the band that is `below` bands below band `z`, if b is at least `least`.
 fn fill_line(
     cube: &Cube,
     z: usize,
     below: usize,
+    least: usize,
     y: u32,
     origin: usize,
     b: usize,
@@ -54,14 +57,14 @@ fn fill_line(
     requires row { y < cube.now.shape.rows }
     requires origin { origin ≤ 65536 }
     requires bits { cube.now.kind.bits ≤ 12 }
-    ensures numbers { (i : ℕ) → i < 64 → below ≤ z → 7 + b ≤ origin + below + i → column_at (origin + below) i b < cube.now.shape.columns
+    ensures numbers { (i : ℕ) → i < 64 → least ≤ b → below ≤ z → 7 + b ≤ origin + below + i → column_at (origin + below) i b < cube.now.shape.columns
         → place lines.new b i ≡ pos (number_at cube.now (z - below) y (column_at (origin + below) i b)) }
     ensures none { (i : ℕ) → i < 64 → z < below → place lines.new b i ≡ pos 0 }
     ensures within { (i : ℕ) → i < 64 → (pos 0 ≤ℤ place lines.new b i) × (place lines.new b i ≤ℤ (pos (2 ^ cube.now.kind.bits) -ℤ pos 1)) }
     ensures others { (k i : ℕ) → k ≢ b → place lines.new k i ≡ place lines.old k i }
 {
     cube.prove_is_cube();
-    if z < below {
+    if z < below || b < least {
         clear_line(&mut lines[b]);
     } else {
         let row = cube.row((z - below) as u32, y);

@@ -92,6 +92,7 @@ fn invert_lanes<const Q: usize>(
         cube,
         first,
         0,
+        0,
         y,
         origin,
         &mut room.lines,
@@ -101,15 +102,19 @@ fn invert_lanes<const Q: usize>(
         cube,
         first,
         0,
+        0,
         y - 1,
         origin,
         &mut room.lines,
         &mut room.above,
     );
+    // No component is of a band further below than the previous ones.
+    let least = 8 - form.previous;
     fill_rows(
         cube,
         first,
         8,
+        least,
         y,
         origin,
         &mut room.lines,
@@ -119,6 +124,7 @@ fn invert_lanes<const Q: usize>(
         cube,
         first,
         8,
+        least,
         y - 1,
         origin,
         &mut room.lines,

@@ -6,7 +6,7 @@ use Rattle.predict_core.proofs.wave.rows.fill_rows.Given as goal
 
 abbrev pub invariant-loop-b : goal.invariant-loop-b
 invariant-loop-b l = record {
-  numbers : (i b : ℕ) → i < 64 → b < l.b → l.below ≤ l.first + b → 7 + b ≤ l.origin + l.below + i → column_at (l.origin + l.below) i b < l.cube.shape.columns
+  numbers : (i b : ℕ) → i < 64 → b < l.b → l.least ≤ b → l.below ≤ l.first + b → 7 + b ≤ l.origin + l.below + i → column_at (l.origin + l.below) i b < l.cube.shape.columns
       → place l.lines b i ≡ pos (number_at l.cube (l.first + b - l.below) l.y (column_at (l.origin + l.below) i b));
   none : (i b : ℕ) → i < 64 → b < l.b → l.first + b < l.below → place l.lines b i ≡ pos 0;
   within : (i b : ℕ) → i < 64 → b < l.b → (pos 0 ≤ℤ place l.lines b i) × (place l.lines b i ≤ℤ (pos (2 ^ l.cube.kind.bits) -ℤ pos 1));
