@@ -8,7 +8,6 @@ use Rattle.cube_core.specs.Shape.{Sizes, sample_count}
 use Rattle.cube_core.specs.Kind.{SampleKind, smin, sample_of}
 use Rattle.cube_core.specs.Image.{Image, IsCube, IsPlace, sample_at}
 use Rattle.cube_core.specs.Order.{IsOrder, IsPlaceOf, places, place_index}
-use Rattle.cube_core.proofs.Come.{time_of}
 use Rattle.cube_core.proofs.Keys.{order_is_by_key, item_of_index}
 use Rattle.cube_core.proofs.Lists.{all_mapped, map_same, map_taken_same}
 use Rattle.cube_core.proofs.Orders.{length-places}

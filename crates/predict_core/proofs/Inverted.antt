@@ -1,5 +1,5 @@
 -- One run of a band more is inverted: what the cube holds then, and which image the band follows.
-use Rattle.std.proofs.Common.{◌≡◌, ◌≢◌, ◌⊎◌, ◌+◌, ◌-◌, ◌*◌, ◌<◌, ◌≤◌, ℕ, zero, suc, ℤ, List, length, set, get_or, sym, ap, ap₂, subst, ◌∙◌, refl, inl, inr, false, arith}
+use Rattle.std.proofs.Common.{◌≡◌, ◌≢◌, ◌+◌, ◌-◌, ◌*◌, ◌<◌, ◌≤◌, ℕ, zero, suc, List, length, set, sym, ap, ap₂, subst, ◌∙◌, inl, inr, false, arith}
 use Rattle.std.proofs.Common.{get_or-set_same, get_or-set_other, mul-le-mul_right}
 use Rattle.std.specs.List.{slice_index}
 use Rattle.std.proofs.lemmas.Bool.{cases_lt, cases_eq, cases_order}
@@ -14,7 +14,6 @@ use Rattle.cube_core.specs.Runs.{IsRunSet}
 use Rattle.cube_core.proofs.Images.{same_cube}
 use Rattle.header_bits.specs.declared.params.Params.{Params}
 use Rattle.sample_prediction.specs.Residual.{mapped_residual, run_residuals}
-use Rattle.sample_prediction.specs.Prediction.{weight_vector}
 use Rattle.predict_core.specs.Following.{PredictorState, Follows, MovesBy}
 use Rattle.predict_core.specs.GroupRooms.{no_band}
 use Rattle.predict_core.specs.Inversion.{IsInverting, IsAtStart, IsCoded, IsBandInverted, HoldsResidual, band_at, number_at, AreAhead}

@@ -1,5 +1,5 @@
 -- Cubes with the same residual at a place, and the same samples before it, have the same sample there.
-use Rattle.std.proofs.Common.{◌≡◌, ◌+◌, ◌*◌, ◌<◌, ◌≤◌, ℕ, suc, ℤ, sym, ap, ◌∙◌, refl, false, arith}
+use Rattle.std.proofs.Common.{◌≡◌, ◌+◌, ◌*◌, ℕ, suc, ℤ, sym, ap, ◌∙◌, refl, arith}
 use Rattle.std.proofs.Math.Arith.{digits_lt}
 use Rattle.cube_core.specs.declared.order.Place.{Place}
 use Rattle.cube_core.specs.Shape.{Sizes}

@@ -1,5 +1,5 @@
 -- A lane of a wavefront begins: it gets the weights of its band, and the offset at column 0.
-use Rattle.std.proofs.Common.{◌≡◌, ◌≢◌, ◌+◌, ◌*◌, ◌<◌, ◌≤◌, ℕ, ℤ, pos, List, take, ◌∙◌, ap, sym, inl, inr, arith}
+use Rattle.std.proofs.Common.{◌≡◌, ◌≢◌, ◌+◌, ◌<◌, ℕ, ℤ, List, ◌∙◌, inl, inr, arith}
 use Rattle.std.proofs.lemmas.Bool.{cases_eq}
 use Rattle.cube_core.specs.Image.{Image}
 use Rattle.header_bits.specs.declared.params.Params.{Params}
@@ -8,7 +8,7 @@ use Rattle.band_lanes.specs.Rows.{weights_of}
 use Rattle.predict_core.specs.declared.settings.Settings.{Settings}
 use Rattle.predict_core.specs.Following.{PredictorState}
 use Rattle.predict_core.specs.GroupLanes.{HasWeights}
-use Rattle.predict_core.specs.Inversion.{band_at, number_at}
+use Rattle.predict_core.specs.Inversion.{band_at}
 use Rattle.predict_core.specs.WaveLanes.{AreInStep, AreToBegin, column_at}
 
 pub lane_begins : {q : ℕ} {p : Params} {s : ℕ → Settings} {d : Image} {first y last : ℕ} {bands : List PredictorState}

@@ -1,11 +1,10 @@
 -- The form of a wavefront, for images of one shape and kind.
-use Rattle.std.proofs.Common.{◌≡◌, ◌+◌, ◌*◌, ◌<◌, ℕ, List, ◌∙◌, sym, ap, subst}
+use Rattle.std.proofs.Common.{◌≡◌, ◌<◌, ℕ, List, ◌∙◌, sym, ap, subst}
 use Rattle.cube_core.specs.Shape.{Sizes}
 use Rattle.cube_core.specs.Kind.{SampleKind}
 use Rattle.cube_core.specs.Image.{Image}
 use Rattle.header_bits.specs.declared.params.Params.{Params}
 use Rattle.sample_prediction.specs.declared.predictor.Predictor.{Predictor}
-use Rattle.sample_prediction.specs.Weights.{step_exponent}
 use Rattle.predict_core.specs.declared.wave.form.Form.{Form}
 use Rattle.predict_core.specs.Following.{PredictorState}
 use Rattle.predict_core.specs.GroupLanes.{IsNarrow}

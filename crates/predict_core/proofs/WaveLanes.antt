@@ -1,24 +1,23 @@
 -- One step of a wavefront: in each lane it finds the sample of the band, and what is needed for the next.
-use Rattle.std.proofs.Common.{◌≡◌, ◌≢◌, ◌+◌, ◌-◌, ◌*◌, ◌^◌, ◌<◌, ◌≤◌, nat_le, ◌==◌, ℕ, ℤ, pos, ◌+ℤ◌, ◌-ℤ◌, ◌*ℤ◌, ◌≤ℤ◌, int_le, unsigned_abs, Bool, true, false}
-use Rattle.std.proofs.Common.{List, [], ◌∷◌, ◌++◌, length, take, replicate, get_or, refl, sym, ap, ap₂, ◌∙◌, subst, inl, inr, arith, if◌then◌else◌}
+use Rattle.std.proofs.Common.{◌≡◌, ◌+◌, ◌-◌, ◌*◌, ◌^◌, ◌<◌, ◌≤◌, nat_le, ◌==◌, ℕ, ℤ, pos, ◌+ℤ◌, ◌-ℤ◌, ◌*ℤ◌, ◌≤ℤ◌, Bool, true, false}
+use Rattle.std.proofs.Common.{List, [], ◌∷◌, ◌++◌, length, take, replicate, get_or, refl, sym, ap, ◌∙◌, subst, inl, inr, arith, if◌then◌else◌}
 use Rattle.std.proofs.lemmas.Nat.{mul-le}
 use Rattle.std.proofs.lemmas.Bool.{cases_lt, cases_Bool, cases_eq}
 use Rattle.std.proofs.lemmas.Bool.Decides.{nat_tests}
 use Rattle.std.proofs.lemmas.Int.{ints, clamps}
 use Rattle.std.proofs.lemmas.List.{length-append, length-replicate, get_or-replicate, take_all}
-use Rattle.cube_core.specs.Kind.{SampleKind, IsSample, smin, smax, smid}
+use Rattle.cube_core.specs.Kind.{smin, smax, smid}
 use Rattle.cube_core.specs.Image.{Image, IsCube, IsPlace, sample_at}
 use Rattle.header_bits.specs.declared.params.Params.{Params}
-use Rattle.lanes.specs.Lanes.{lane, place, held}
+use Rattle.lanes.specs.Lanes.{place, held}
 use Rattle.band_lanes.specs.declared.pairs.Pairs.{Pairs}
 use Rattle.band_lanes.specs.Rows.{weights_of, components_of, held_difference}
 use Rattle.band_lanes.proofs.Rows.{weights_long}
 use Rattle.sample_prediction.specs.Arithmetic.{floor_div, clip}
 use Rattle.sample_prediction.specs.Bounds.{AllWithin}
-use Rattle.sample_prediction.specs.Chain.{AreWeightsAt, scaled_by_difference}
+use Rattle.sample_prediction.specs.Chain.{scaled_by_difference}
 use Rattle.sample_prediction.specs.Differences.{central_difference, directional_differences, difference_vector}
 use Rattle.sample_prediction.specs.LocalSum.{local_sum}
-use Rattle.sample_prediction.specs.Mapping.{unmapped_between}
 use Rattle.sample_prediction.specs.Prediction.{inner_product, scaled_there, weight_vector}
 use Rattle.sample_prediction.specs.Residual.{mapped, mapped_between, mapped_residual}
 use Rattle.sample_prediction.specs.declared.predictor.Predictor.{Predictor}

@@ -1,5 +1,5 @@
 -- Rows of eight lanes, written one lane after another.
-use Rattle.std.proofs.Common.{◌≡◌, ◌+◌, ◌<◌, ℕ, ℤ, pos, List, length, set, get_or, arith, inl, inr}
+use Rattle.std.proofs.Common.{◌+◌, ◌<◌, ℕ, ℤ, pos, List, length, set, arith, inl, inr}
 use Rattle.std.proofs.Common.{get_or-set_same, get_or-set_other}
 use Rattle.std.proofs.lemmas.Bool.{cases_eq}
 use Rattle.lanes.specs.Lanes.{lane}

@@ -1,12 +1,12 @@
 -- A piece of a row of eight bands: what is known before its first step is what its lanes need.
-use Rattle.std.proofs.Common.{◌≡◌, ◌+◌, ◌-◌, ◌*◌, ◌^◌, ◌<◌, ◌≤◌, nat_le, ℕ, ℤ, pos, ◌+ℤ◌, ◌-ℤ◌, ◌*ℤ◌, unsigned_abs, Bool, true, false, List, [], length, take, min, refl, sym, ap, ap₂, ◌∙◌, subst, inl, inr, arith, if◌then◌else◌}
+use Rattle.std.proofs.Common.{◌≡◌, ◌+◌, ◌-◌, ◌*◌, ◌<◌, ◌≤◌, nat_le, ℕ, ℤ, pos, ◌+ℤ◌, ◌-ℤ◌, ◌*ℤ◌, unsigned_abs, Bool, true, false, List, length, take, min, refl, sym, ap, ap₂, ◌∙◌, inl, inr, arith, if◌then◌else◌}
 use Rattle.std.proofs.lemmas.Bool.{cases_lt}
 use Rattle.std.proofs.lemmas.Bool.Decides.{nat_tests}
 use Rattle.std.proofs.lemmas.Int.{ints}
 use Rattle.std.proofs.lemmas.Nat.{row_fits}
 use Rattle.cube_core.specs.Shape.{Sizes}
 use Rattle.cube_core.specs.Kind.{SampleKind, smin}
-use Rattle.cube_core.specs.Image.{Image, IsCube, IsPlace, sample_at}
+use Rattle.cube_core.specs.Image.{Image, IsPlace, sample_at}
 use Rattle.header_bits.specs.declared.params.Params.{Params}
 use Rattle.lanes.specs.Lanes.{place}
 use Rattle.band_lanes.specs.Rows.{weights_of}

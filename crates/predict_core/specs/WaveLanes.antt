@@ -1,16 +1,14 @@
 -- Eight bands in a wavefront over a row of an image d: in step k, lane b is band `first + b`, at column `origin + k - 7 - b`. A lane that isn't at a column yet, or
 -- is at its last one or beyond, holds numbers without meaning.
-use Rattle.std.specs.Prelude.{ℕ, ◌≡◌, ◌+◌, ◌-◌, ◌*◌, ◌^◌, ◌<◌, ◌≤◌, nat_le, ℤ, pos, ◌+ℤ◌, List, take, if◌then◌else◌}
+use Rattle.std.specs.Prelude.{ℕ, ◌≡◌, ◌+◌, ◌-◌, ◌*◌, ◌<◌, ◌≤◌, nat_le, ℤ, pos, ◌+ℤ◌, List, take, if◌then◌else◌}
 use Rattle.header_bits.specs.declared.params.Params.{Params}
-use Rattle.cube_core.specs.Kind.{smin, smax, sample_of}
-use Rattle.cube_core.specs.Image.{Image, IsCube, sample_at}
+use Rattle.cube_core.specs.Kind.{smin, smax}
+use Rattle.cube_core.specs.Image.{Image, IsCube}
 use Rattle.lanes.specs.Lanes.{place}
 use Rattle.band_lanes.specs.Rows.{weights_of}
-use Rattle.sample_prediction.specs.Bounds.{AllWithin}
 use Rattle.sample_prediction.specs.Chain.{AreWeightsAt}
 use Rattle.sample_prediction.specs.Differences.{central_difference}
 use Rattle.sample_prediction.specs.Residual.{mapped_residual}
-use Rattle.sample_prediction.specs.declared.predictor.Predictor.{Predictor}
 use Rattle.predict_core.specs.declared.settings.Settings.{Settings}
 use Rattle.predict_core.specs.declared.wave.form.Form.{Form}
 use Rattle.predict_core.specs.Following.{PredictorState}

@@ -1,5 +1,5 @@
 -- Lines of eight bands, each a column further to the left than the one before, and the rows that they are turned into.
-use Rattle.std.specs.Prelude.{ℕ, ◌≡◌, ◌⊎◌, ◌+◌, ◌-◌, ◌<◌, ◌≤◌, ℤ, pos, ◌≤ℤ◌, List, length, slice_index, slice_index_or}
+use Rattle.std.specs.Prelude.{ℕ, ◌≡◌, ◌⊎◌, ◌+◌, ◌-◌, ◌<◌, ◌≤◌, ℤ, pos, List, length, slice_index, slice_index_or}
 use Rattle.cube_core.specs.Image.{Image}
 use Rattle.lanes.specs.Lanes.{place}
 use Rattle.predict_core.specs.Inversion.{number_at}

@@ -1,4 +1,4 @@
-use Rattle.std.proofs.Common.{◌≡◌, ◌∙◌, ◌*◌, ◌≤◌, ℕ, length, sym, ap, arith}
+use Rattle.std.proofs.Common.{◌*◌, ap, arith}
 use Rattle.cube_core.specs.Shape.{Sizes}
 use Rattle.predict_core.proofs.Coded.{coded_cube}
 use Rattle.predict_core.proofs.Inverted.{inverting_first, inverted_last}

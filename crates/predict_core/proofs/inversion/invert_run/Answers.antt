@@ -1,12 +1,9 @@
 use Rattle.std.proofs.Common.{◌≡◌, ◌∙◌, ◌+◌, ◌<◌, ℕ, ℤ, pos, ◌+ℤ◌, sym, refl, arith, length, take, length-take, get_or}
 use Rattle.std.proofs.lemmas.Int.{ints}
-use Rattle.std.proofs.lemmas.List.{length-replicate, get_or-take}
+use Rattle.std.proofs.lemmas.List.{get_or-take}
 use Rattle.std.proofs.lemmas.Option.{slice_get-get_or, get_or_from_slice_get}
-use Rattle.std.specs.List.{slice_index}
-use Rattle.cube_core.specs.Image.{Image, sample_at}
-use Rattle.header_bits.specs.declared.params.Params.{Params}
 use Rattle.predict_core.specs.GroupRooms.{no_band}
-use Rattle.predict_core.specs.Inversion.{IsInverting, band_at}
+use Rattle.predict_core.specs.Inversion.{band_at}
 use Rattle.predict_core.proofs.Inverted.{run_inverted}
 use Rattle.predict_core.proofs.inversion.invert_run.Goals as goal
 use Rattle.predict_core.proofs.inversion.invert_run.Goals.{After-prove_is_cube-2}

@@ -1,7 +1,6 @@
-use Rattle.std.proofs.Common.{◌≡◌, ◌∙◌, ◌+◌, ◌*◌, ◌<◌, ◌≤◌, inl, inr, arith, subst, sym, ap}
+use Rattle.std.proofs.Common.{◌≡◌, ◌∙◌, inl, inr, arith, subst, sym, ap}
 use Rattle.std.proofs.lemmas.Bool.{cases_Bool}
 use Rattle.cube_core.specs.Shape.{Sizes}
-use Rattle.predict_core.specs.Inversion.{band_at}
 use Rattle.predict_core.specs.WaveTiles.{IsFormOf}
 use Rattle.predict_core.proofs.WaveEnds.{within_end, within_start}
 use Rattle.predict_core.proofs.WaveForms.{form_same, same_predictor}

@@ -1,8 +1,7 @@
-use Rattle.std.proofs.Common.{◌≡◌, ◌+◌, ◌-◌, ◌*◌, ◌<◌, ◌≤◌, ℕ, ap, inl, inr, arith}
+use Rattle.std.proofs.Common.{◌≡◌, ◌+◌, ◌-◌, ◌*◌, ℕ, ap, inl, inr, arith}
 use Rattle.std.proofs.lemmas.Bool.{cases_lt}
 use Rattle.std.proofs.lemmas.Nat.{row_fits}
 use Rattle.cube_core.specs.Shape.{Sizes}
-use Rattle.predict_core.specs.Inversion.{band_at}
 use Rattle.predict_core.proofs.inversion.start_wave.Goals as goal
 
 pub invert_run-requires-clause-ahead : goal.invert_run-requires-clause-ahead

@@ -1,4 +1,4 @@
-use Rattle.std.proofs.Common.{◌≡◌, ◌∙◌, ◌+◌, ◌^◌, ◌<◌, ◌≤◌, ℕ, length, get_or, sym, subst, refl, inl, inr, arith}
+use Rattle.std.proofs.Common.{◌≡◌, ◌∙◌, ◌+◌, ◌^◌, ◌<◌, ℕ, length, sym, subst, refl, inl, inr, arith}
 use Rattle.std.proofs.lemmas.Bool.{cases_eq}
 use Rattle.std.proofs.lemmas.Option.{slice_get_read, get_or_from_slice_get}
 use Rattle.band_lanes.specs.Rows.{weights_of}
@@ -7,7 +7,7 @@ use Rattle.predict_core.specs.Following.{PredictorState}
 use Rattle.predict_core.specs.GroupLanes.{HasWeights}
 use Rattle.predict_core.specs.GroupRooms.{no_band}
 use Rattle.predict_core.specs.Inversion.{band_at}
-use Rattle.predict_core.specs.WaveLanes.{AreLanes, AreInStep}
+use Rattle.predict_core.specs.WaveLanes.{AreInStep}
 use Rattle.predict_core.proofs.WaveBegun.{lane_begins}
 use Rattle.predict_core.proofs.wave.begin.begin_lanes.Goals as goal
 

@@ -1,4 +1,4 @@
-use Rattle.std.proofs.Common.{◌≡◌, ◌∙◌, ◌+◌, ◌-◌, ◌<◌, ℕ, ℤ, pos, ◌-ℤ◌, ◌*ℤ◌, refl, arith}
+use Rattle.std.proofs.Common.{◌≡◌, ◌∙◌, ◌+◌, ◌-◌, ◌<◌, ℕ, refl, arith}
 use Rattle.lanes.specs.Lanes.{lane}
 use Rattle.predict_core.specs.Wave.{sum_at}
 use Rattle.predict_core.proofs.WaveParts.{difference_below}

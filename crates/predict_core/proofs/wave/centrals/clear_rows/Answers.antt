@@ -1,4 +1,4 @@
-use Rattle.std.proofs.Common.{◌≡◌, ◌∙◌, ℕ, ℤ, pos, [], List, replicate, get_or, ap}
+use Rattle.std.proofs.Common.{◌∙◌, ℤ, pos, [], List, replicate, get_or, ap}
 use Rattle.std.proofs.lemmas.List.{get_or-replicate}
 use Rattle.predict_core.proofs.wave.centrals.clear_rows.Goals as goal
 

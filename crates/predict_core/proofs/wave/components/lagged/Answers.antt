@@ -1,4 +1,4 @@
-use Rattle.std.proofs.Common.{◌≡◌, ◌∙◌, ◌+◌, ◌-◌, ◌<◌, ◌≤◌, ap, inl, inr, arith, w16}
+use Rattle.std.proofs.Common.{◌∙◌, ◌+◌, ◌-◌, ap, inl, inr, w16}
 use Rattle.std.proofs.lemmas.Bool.{cases_lt}
 use Rattle.lanes.specs.Lanes.{lane}
 use Rattle.lanes.proofs.Ranges.{vector}

@@ -1,4 +1,4 @@
-use Rattle.std.proofs.Common.{◌≡◌, ◌+◌, ◌*◌, ◌^◌, length, rules, arith, ap}
+use Rattle.std.proofs.Common.{◌≡◌, ◌+◌, ◌*◌, ◌^◌, length, rules, arith}
 use Rattle.band_lanes.specs.Rows.{weights_of}
 use Rattle.band_lanes.proofs.Rows.{weights_long}
 use Rattle.predict_core.proofs.GroupRuns.{replaced_within}

@@ -1,9 +1,7 @@
-use Rattle.std.proofs.Common.{◌≡◌, ◌∙◌, ◌+◌, ◌-◌, ◌*◌, ◌<◌, ◌≤◌, ℕ, ℤ, pos, sym, refl, ap, ap₂, arith, length, take, length-take, get_or}
+use Rattle.std.proofs.Common.{◌≡◌, ◌∙◌, ◌+◌, ◌-◌, ◌*◌, ◌≤◌, ℕ, ℤ, pos, sym, ap, ap₂, arith, length, take, length-take, get_or}
 use Rattle.std.proofs.lemmas.Int.{ints}
 use Rattle.std.proofs.lemmas.List.{get_or-take}
 use Rattle.std.proofs.lemmas.Option.{slice_get-get_or, get_or_from_slice_get}
-use Rattle.std.specs.List.{slice_index}
-use Rattle.cube_core.specs.Image.{Image}
 use Rattle.lanes.specs.Lanes.{place}
 use Rattle.sample_prediction.specs.Prediction.{weight_vector}
 use Rattle.predict_core.specs.GroupRooms.{no_band}

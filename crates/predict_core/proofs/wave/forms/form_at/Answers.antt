@@ -1,4 +1,4 @@
-use Rattle.std.proofs.Common.{◌≡◌, SFits, w32, to_z-of_z, rules}
+use Rattle.std.proofs.Common.{SFits, w32, to_z-of_z, rules}
 use Rattle.predict_core.proofs.GroupLanes.{exponent_least, exponent_most}
 use Rattle.predict_core.proofs.wave.forms.form_at.Goals as goal
 

@@ -1,4 +1,4 @@
-use Rattle.std.proofs.Common.{◌≡◌, ◌∙◌, ◌+◌, ◌^◌, ◌≤◌, ℕ, ℤ, pos, ◌+ℤ◌, ◌-ℤ◌, ◌≤ℤ◌, w16, w32, to_z, of_z, SFits, to_z-of_z, arith, sym, ap, pow_mono}
+use Rattle.std.proofs.Common.{◌≡◌, ◌∙◌, ◌^◌, ◌≤◌, ℕ, ℤ, pos, ◌-ℤ◌, ◌≤ℤ◌, w16, w32, to_z, of_z, SFits, to_z-of_z, arith, ap, pow_mono}
 use Rattle.std.proofs.lemmas.Int.{ints, fits_signed_from_abs}
 use Rattle.cube_core.specs.Kind.{smin, smax}
 use Rattle.sample_prediction.specs.declared.sample_limits.SampleLimits.{SampleLimits}

@@ -1,4 +1,4 @@
-use Rattle.std.proofs.Common.{◌≡◌, ◌∙◌, ◌+◌, ◌-◌, ◌<◌, ◌≤◌, ◌^◌, ℕ, pos, arith, pow_mono}
+use Rattle.std.proofs.Common.{◌≤◌, ◌^◌, arith, pow_mono}
 use Rattle.predict_core.proofs.wave.rows.fill_line.Goals as goal
 
 pub skew-requires-clause-small : goal.skew-requires-clause-small

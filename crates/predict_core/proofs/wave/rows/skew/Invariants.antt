@@ -1,4 +1,4 @@
-use Rattle.std.proofs.Common.{◌≡◌, ◌⊎◌, ◌+◌, ◌<◌, ◌≤◌, ℕ, pos, length, slice_index_or, slice_index}
+use Rattle.std.proofs.Common.{◌≡◌, ◌+◌, ◌<◌, ◌≤◌, ℕ, pos, length, slice_index_or, slice_index}
 use Rattle.predict_core.proofs.wave.rows.skew.Given as goal
 
 abbrev pub invariant-loop-i : goal.invariant-loop-i

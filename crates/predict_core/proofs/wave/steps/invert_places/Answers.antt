@@ -1,5 +1,4 @@
-use Rattle.std.proofs.Common.{◌≡◌, ◌∙◌, ◌+◌, ◌^◌, ◌<◌, ◌≤◌, arith, subst, sym}
-use Rattle.band_lanes.specs.Rows.{weights_of, components_of}
+use Rattle.std.proofs.Common.{◌≡◌, ◌+◌, ◌^◌, arith, subst, sym}
 use Rattle.sample_prediction.specs.Bounds.{AllWithin}
 use Rattle.predict_core.specs.WaveLanes.{AreInStep}
 use Rattle.predict_core.proofs.GroupLanes.{updated_within}

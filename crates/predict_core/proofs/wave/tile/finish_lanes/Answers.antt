@@ -1,12 +1,10 @@
-use Rattle.std.proofs.Common.{◌≡◌, ◌∙◌, ◌+◌, ◌-◌, ◌*◌, ◌<◌, ◌≤◌, ℕ, pos, sym, ap, ap₂, arith, length, take, inl, inr}
+use Rattle.std.proofs.Common.{◌≡◌, ◌∙◌, ◌+◌, ◌<◌, ℕ, ap, arith, length, take, inl, inr}
 use Rattle.std.proofs.lemmas.Bool.{cases_eq}
 use Rattle.cube_core.specs.Shape.{Sizes}
 use Rattle.band_lanes.specs.Rows.{weights_of}
-use Rattle.sample_prediction.specs.Prediction.{weight_vector}
 use Rattle.predict_core.specs.Following.{PredictorState}
-use Rattle.predict_core.specs.Inversion.{band_at, number_at}
-use Rattle.predict_core.specs.WaveLanes.{column_at, first_column, first_step}
-use Rattle.predict_core.specs.WaveTiles.{ended, end_column, rows_at_end}
+use Rattle.predict_core.specs.Inversion.{band_at}
+use Rattle.predict_core.specs.WaveTiles.{ended, rows_at_end}
 use Rattle.predict_core.proofs.wave.tile.finish_lanes.Goals as goal
 
 pub loop-b-preserved : goal.loop-b-preserved

@@ -1,5 +1,5 @@
-use Rattle.std.proofs.Common.{◌≡◌, ◌∙◌, ◌+◌, ◌-◌, ◌*◌, ◌^◌, ◌<◌, ◌≤◌, ℕ, ℤ, pos, ◌+ℤ◌, ◌-ℤ◌, ◌≤ℤ◌, List, Some, min, length, take, drop, get_or, sym, ap, subst, refl, arith}
-use Rattle.std.proofs.Common.{ap₂, length-take, length-drop}
+use Rattle.std.proofs.Common.{◌≡◌, ◌∙◌, ◌+◌, ◌-◌, ◌^◌, ◌<◌, ◌≤◌, ℕ, ℤ, pos, ◌-ℤ◌, List, Some, min, length, take, drop, sym, ap, subst, refl, arith}
+use Rattle.std.proofs.Common.{length-take, length-drop}
 use Rattle.std.specs.List.{slice_get}
 use Rattle.std.proofs.lemmas.Int.{ints}
 use Rattle.std.proofs.lemmas.List.{get_or-take, get_or-drop}
@@ -8,17 +8,15 @@ use Rattle.cube_core.specs.Image.{Image}
 use Rattle.cube_core.specs.Shape.{Sizes}
 use Rattle.header_bits.specs.declared.params.Params.{Params}
 use Rattle.band_lanes.specs.Rows.{weights_of}
-use Rattle.lanes.specs.Lanes.{place}
 use Rattle.sample_prediction.specs.Bounds.{AllWithin}
-use Rattle.sample_prediction.specs.Prediction.{weight_vector}
 use Rattle.predict_core.specs.declared.wave.form.Form.{Form}
 use Rattle.predict_core.specs.Following.{PredictorState}
 use Rattle.predict_core.specs.GroupLanes.{HasWeights}
 use Rattle.predict_core.specs.GroupRooms.{no_band}
 use Rattle.predict_core.specs.Inversion.{IsInverting, band_at}
-use Rattle.predict_core.specs.Wave.{AreOffsetRows, kept_rows}
-use Rattle.predict_core.specs.WaveLanes.{AreLanes, column_at}
-use Rattle.predict_core.specs.WaveTiles.{ended, end_column, rows_at_end}
+use Rattle.predict_core.specs.Wave.{AreOffsetRows}
+use Rattle.predict_core.specs.WaveLanes.{AreLanes}
+use Rattle.predict_core.specs.WaveTiles.{ended, rows_at_end}
 use Rattle.predict_core.proofs.WaveEnds.{at_end, whole_far, offsets_found, weights_found}
 use Rattle.predict_core.proofs.WaveTiles.{IsBegun, lanes_begun, start_begun, to_begin, constants_at, same_made, count_is, enough_at}
 use Rattle.predict_core.proofs.wave.tile.invert_lanes.Given as given

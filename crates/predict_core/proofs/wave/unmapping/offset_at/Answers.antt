@@ -1,9 +1,9 @@
-use Rattle.std.proofs.Common.{◌≡◌, ◌⊎◌, ◌+◌, ◌-◌, ◌*◌, ◌/◌, ◌%◌, ◌<◌, ◌≤◌, ℕ, ℤ, pos, neg_ℤ, ◌+ℤ◌, ◌-ℤ◌, ◌*ℤ◌, ◌≤ℤ◌, unsigned_abs, sym, ◌∙◌, inl, inr, arith, w16, to_z, of_z, to_z-of_z, SFits, rules, refl, int_lt, true, false}
+use Rattle.std.proofs.Common.{◌≡◌, ◌+◌, ◌*◌, ◌/◌, ◌%◌, ◌<◌, ◌≤◌, ℕ, ℤ, pos, ◌+ℤ◌, ◌-ℤ◌, ◌*ℤ◌, ◌≤ℤ◌, unsigned_abs, ◌∙◌, inl, inr, arith, w16, to_z, of_z, to_z-of_z, SFits, rules, refl, int_lt, true, false}
 use Rattle.std.proofs.lemmas.Bool.{cases_lt}
 use Rattle.std.proofs.lemmas.Bool.Decides.{nat_tests}
 use Rattle.std.proofs.lemmas.Int.{ints}
 use Rattle.sample_prediction.specs.Arithmetic.{floor_div}
-use Rattle.sample_prediction.specs.Mapping.{unmapped_between, error_of, Between}
+use Rattle.sample_prediction.specs.Mapping.{unmapped_between, error_of}
 use Rattle.sample_prediction.specs.Residual.{theta_between}
 use Rattle.sample_prediction.proofs.OneSample.{unmapped_is, sample_in}
 use Rattle.predict_core.proofs.wave.unmapping.offset_at.Goals as goal

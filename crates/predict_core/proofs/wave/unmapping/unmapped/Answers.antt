@@ -1,4 +1,4 @@
-use Rattle.std.proofs.Common.{◌≡◌, ◌∙◌, ℤ, pos, ◌+ℤ◌, ◌*ℤ◌, ◌≤ℤ◌, unsigned_abs, arith, rules, SFits, w16, to_z-of_z}
+use Rattle.std.proofs.Common.{◌≡◌, ◌∙◌, pos, ◌+ℤ◌, ◌*ℤ◌, ◌≤ℤ◌, unsigned_abs, arith, rules, SFits, w16, to_z-of_z}
 use Rattle.std.proofs.lemmas.List.{length-set}
 use Rattle.lanes.specs.Lanes.{lane}
 use Rattle.sample_prediction.specs.Arithmetic.{floor_div, clip}
