@@ -25,6 +25,7 @@ pub mod Runs
 pub mod Emits
 pub mod Gathers
 pub mod LaneTexts
+pub mod SumLanes
 pub mod Packing
 pub mod Stored
 pub mod Holds

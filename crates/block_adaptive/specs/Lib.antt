@@ -14,3 +14,4 @@ pub mod Taken
 pub mod DataSets
 pub mod Settings
 pub mod DataSetKinds
+pub mod LaneSums

@@ -1,11 +1,12 @@
 //! What a block costs under each option, and the choice among them (CCSDS 121.0-B, "Code option selection").
 
-ghost use Rattle.std.specs.Prelude.{◌≡◌, ◌≤◌, ◌<◌, ◌^◌, ◌*◌, ◌-◌, ◌+◌, ◌/◌, ℕ, [], ◌∷◌, length, sum};
+ghost use Rattle.std.specs.Prelude.{◌≡◌, ◌≤◌, ◌<◌, ◌^◌, ◌*◌, ◌-◌, ◌+◌, ◌/◌, ◌%◌, ℕ, length, sum};
 ghost use Rattle.block_adaptive.specs.Options.{width, splits, cost, IsOption, quotient_codes, quotient_sum, pair_codes, pair_number, low_groups};
 ghost use Rattle.block_adaptive.specs.Chosen.{shorter, chosen_option};
 ghost use Rattle.block_adaptive.specs.declared.options.Choice.TheVariants.{Uncoded, Second};
 
 use crate::options::{Choice, CodeSet};
+use crate::quotient_sums::quotient_sums;
 
 /// Returns the number of bits of an identifier; those of zero blocks and of the second extension have one more.
 pub(crate) fn identifier_width(set: &CodeSet) -> u32
@@ -108,23 +109,6 @@ fn first_split(splits: u32, sum: u64, len: u64) -> u32
     }
 }
 
-/// Returns the sums of a block's quotients under k and the next two, in one pass.
-fn quotient_sums(k: u32, block: &[u16]) -> [u32; 3]
-    requires k { k ≤ 13 }
-    requires few { length block.now ≤ 64 }
-    ensures { result ≡ quotient_sum k block.now ∷ quotient_sum (k + 1) block.now ∷ quotient_sum (k + 2) block.now ∷ [] }
-{
-    let mut first = 0u32;
-    let mut second = 0u32;
-    let mut third = 0u32;
-    for value in block {
-        first += u32::from(*value >> k);
-        second += u32::from(*value >> (k + 1));
-        third += u32::from(*value >> (k + 2));
-    }
-    [first, second, third]
-}
-
 /// Returns the number of bits of a block's data set under split-sample, by the sum of its quotients.
 fn split_cost(width: u32, k: u32, quotients: u32, len: u64) -> u64
     requires width { width ≤ 4 }
@@ -143,6 +127,7 @@ pub(crate) fn choose(set: &CodeSet, block: &[u16], total: u32) -> (Choice, u64)
     requires bits { set.now.bits ≤ 16 }
     requires few { length block.now ≤ 64 }
     requires total { total ≡ sum block.now }
+    requires eights { length block.now % 8 ≡ 0 }
     ensures chosen { result.0 ≡ chosen_option set.now block.now }
     ensures cost { result.1 ≡ cost set.now result.0 block.now }
     ensures bound { result.1 ≤ 2 ^ 41 }
@@ -201,6 +186,7 @@ fn choose_of_large(set: &CodeSet, block: &[u16], total: u32) -> (Choice, u64)
     requires bits { set.now.bits ≤ 16 }
     requires few { length block.now ≤ 64 }
     requires total { total ≡ sum block.now }
+    requires eights { length block.now % 8 ≡ 0 }
     requires some { 0 < splits set.now }
     requires large { length block.now ≤ total }
     ensures chosen { result.0 ≡ chosen_option set.now block.now }

@@ -12,6 +12,7 @@ pub mod laws;
 mod lows;
 pub mod options;
 mod pairs;
+mod quotient_sums;
 pub mod segments;
 pub mod worked;
 pub mod worked_codes;

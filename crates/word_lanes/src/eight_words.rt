@@ -37,10 +37,7 @@ pub fn push_equal_eight(writer: BitWriter, bits: u16x8, length: u32) -> BitWrite
     ensures text { result.bits ≡ writer.bits ++ texts (λ j. bits_of length (number bits j)) 0 8 }
     ensures room { writer.room ≡ result.room + 8 * length }
 {
-    let pairs = unsigned::sum(
-        raised(unsigned::evens(bits), length),
-        unsigned::odds(bits),
-    );
+    let pairs = unsigned::sum(raised(unsigned::evens(bits), length), unsigned::odds(bits));
     let quads = unsigned::long_sum(
         long_raised(unsigned::long_evens(pairs), length + length),
         unsigned::long_odds(pairs),

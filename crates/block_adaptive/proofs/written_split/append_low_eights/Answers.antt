@@ -1,4 +1,4 @@
-use Rattle.std.proofs.Common.{◌≡◌, ◌+◌, ◌-◌, ◌%◌, ◌^◌, ◌<◌, ℕ, drop, take, ap, ◌∙◌, get_or, arith}
+use Rattle.std.proofs.Common.{◌+◌, ◌-◌, ◌%◌, ◌^◌, drop, take, ap, ◌∙◌, arith}
 use Rattle.std.proofs.Math.Nat.{mod-lt}
 use Rattle.std.proofs.lemmas.Nat.{pow_pos}
 use Rattle.header_bits.specs.Bits.{bits_of}
@@ -27,13 +27,13 @@ loop-first-preserved c =
     let lows = c.lows_of-lows.result in
     record {
       goes = goes_step _ c.loop-first.invariant.goes
-        (lows_of_eight (λ j. bits_of k (number lows j)) k c.loop-first.first c.args.block.now
-        (λ j lt. ap (bits_of k) (c.lows_of-lows.ensures j lt ∙ ap (λ n. n % 2 ^ k) (c.numbers_at.ensures.same j lt)) ∙ bits_of-mod k k _ (omega arith))
-        (omega (arith, c.loop-first.invariant.eights, c.requires.eights, c.loop-first-test.true)))
-        (record {
-          appended = c.push_equal_eight-writer.ensures.text;
-          spent = rw (equal_length k (number lows) 8 0) c.push_equal_eight-writer.ensures.room;
-        });
+          (lows_of_eight (λ j. bits_of k (number lows j)) k c.loop-first.first c.args.block.now
+          (λ j lt. ap (bits_of k) (c.lows_of-lows.ensures j lt ∙ ap (λ n. n % 2 ^ k) (c.numbers_at.ensures.same j lt)) ∙ bits_of-mod k k _ (omega arith))
+          (omega (arith, c.loop-first.invariant.eights, c.requires.eights, c.loop-first-test.true)))
+          (record {
+            appended = c.push_equal_eight-writer.ensures.text;
+            spent = rw (equal_length k (number lows) 8 0) c.push_equal_eight-writer.ensures.room;
+          });
       eights = omega (arith, c.loop-first.invariant.eights);
       within = omega (arith, c.loop-first.invariant.eights, c.requires.eights, c.loop-first-test.true);
     }

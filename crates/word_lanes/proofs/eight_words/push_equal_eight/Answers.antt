@@ -1,4 +1,4 @@
-use Rattle.std.proofs.Common.{◌≡◌, ◌+◌, ◌*◌, ◌^◌, ◌<◌, ◌++◌, ℕ, List, Bool, ap, ◌∙◌, arith}
+use Rattle.std.proofs.Common.{◌≡◌, ◌+◌, ◌*◌, ◌<◌, ◌++◌, ℕ, List, Bool, ap, ◌∙◌, arith}
 use Rattle.header_bits.specs.Bits.{bits_of}
 use Rattle.lanes.specs.Lanes.{number}
 use Rattle.lanes.proofs.Plain.{splat}

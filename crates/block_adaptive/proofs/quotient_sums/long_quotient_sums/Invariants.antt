@@ -1,6 +1,6 @@
 use Rattle.std.proofs.Common.{◌≡◌, ◌+◌, ◌*◌, ◌≤◌, take}
 use Rattle.block_adaptive.specs.Options.{quotient_sum}
-use Rattle.block_adaptive.proofs.choice.quotient_sums.Given as goal
+use Rattle.block_adaptive.proofs.quotient_sums.long_quotient_sums.Given as goal
 
 abbrev pub invariant-loop-value : goal.invariant-loop-value
 invariant-loop-value l = record {
