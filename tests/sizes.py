@@ -105,6 +105,23 @@ def no_second_copy(room):
             room.expect(f"{name}, expanded to its bytes", room.read("back") == raw, True)
 
 
+def no_spare_bytes(room):
+    """Checks that `expand` gives back what the file's bytes grew by ahead of what came, where that is far more than the file needs.
+
+    The scene is coded to some 19 MB, and the bytes grow to 32 MB. It is expanded in at most 1.45 times the raw bytes."""
+    columns, rows, bands = shape = (1_024, 1_024, 24)
+    noise = random.Random(48).randbytes(columns * rows * bands).translate(bytes(i % 48 for i in range(256)))
+    raw = bytearray(2 * len(noise))
+    raw[1::2] = noise
+    room.write("raw", bytes(raw))
+    name = f"{shape} of noise without spare bytes"
+    room.expect(name, room.run("compress", *sizes_of(shape, 2, "sample"), "--order", "bi", "--depth", 1, "raw", "file"), (0, b"", ""))
+    room.expect(f"{name}: more than 2^24", 1 << 24 < len(room.read("file")) < 22 << 20, True)
+    found = room.run("expand", "file", "back", limit=int(1.45 * len(raw)) + (8 << 20))
+    room.expect(f"{name}, expanded", found, (0, b"", ""))
+    room.expect(f"{name}, expanded to its bytes", room.read("back") == bytes(raw), True)
+
+
 def great_refusals(room):
     """Checks that more than 2^24 samples are refused for what is wrong with them, and not for lack of memory.
 
@@ -191,7 +208,7 @@ def great_tables(room):
 def main():
     with tempfile.TemporaryDirectory() as folder:
         room = Room(folder, sys.argv[1] if len(sys.argv) > 1 else PROGRAM)
-        for part in (long_sides, many_samples, no_second_copy, great_refusals, most_samples, great_show, great_tables):
+        for part in (long_sides, many_samples, no_second_copy, no_spare_bytes, great_refusals, most_samples, great_show, great_tables):
             part(room)
     print(f"sizes.py: {room.passed} passed, {room.failed} failed")
     return 1 if room.failed else 0

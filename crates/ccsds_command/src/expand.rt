@@ -77,7 +77,9 @@ fn decoded<S: Source>(alloc: Global, source: &mut S) -> Result<Cube, Fault>
     ensures short { OnOk result (GaveBelow file_limit (S.left source.old) (S.left source.new)) }
     ensures unfilled { IfErr result (λ e. e ≡ WantOfMemory → GaveBelow file_limit (S.left source.old) (S.left source.new)) }
 {
-    let bytes = read_file(alloc, source)?;
+    let mut bytes = read_file(alloc, source)?;
+    // They grew ahead of what came, by up to as much again, which isn't needed beside the cube.
+    bytes.shrink_to_fit();
     let (_params, cube) = decode(alloc, &bytes)?;
     Ok(cube)
 }
