@@ -24,7 +24,7 @@ ORDERS = {"by band": ["--order", "bsq"], "by line": ["--order", "bi", "--depth",
 
 
 def write_scene(path):
-    """Writes raw bytes whose samples have a slope, and noise of some bits: as many of them as a file has that is a third as long."""
+    """Writes raw bytes, band after band, whose samples have a slope and as much noise as makes their file a third as long."""
     chance = random.Random(1)
     noise = chance.randbytes(COLUMNS + 65_536)
     with open(path, "wb") as raw:
@@ -48,11 +48,13 @@ def main():
     program = sys.argv[1] if len(sys.argv) > 1 else PROGRAM
     sizes = ["--columns", COLUMNS, "--rows", ROWS, "--bands", BANDS, "--bits", BITS, "--bytes", BYTES]
     with tempfile.TemporaryDirectory() as folder:
-        raw, file, back = (os.path.join(folder, name) for name in ("raw", "file", "back"))
+        raw, first, file, back = (os.path.join(folder, name) for name in ("raw", "first", "file", "back"))
         write_scene(raw)
         size = os.path.getsize(raw)
+        peak([program, "compress", *map(str, sizes), raw, first])
         print(f"{size / 1e6:.0f} MB of raw samples\n\n| layout | order | compress | expand | raw bytes by coded bytes |\n|---|---|---|---|---|", flush=True)
         for layout in ("bsq", "bil", "bip"):
+            peak([program, "expand", "--bytes", str(BYTES), "--layout", layout, first, raw])
             for order, asked in ORDERS.items():
                 there = peak([program, "compress", *map(str, sizes), *asked, *OPTIONS, "--layout", layout, raw, file])
                 again = peak([program, "expand", "--bytes", str(BYTES), "--layout", layout, file, back])
