@@ -10,6 +10,7 @@ use cube_core::layout::{Layout, RawOrder};
 use cube_core::shape::Shape;
 use header_bits::params::Params;
 use predict_core::band::Band;
+use predict_core::rows::Rows;
 use std::alloc::Global;
 use std::process::Abort;
 
@@ -62,7 +63,8 @@ impl Twice {
     fn run(&mut self, rt: &impl Abort, y: u32, x: u32, residuals: &mut [u16]) {
         let t = raster_index(rt, self.cube.shape(), y, x, residuals.len());
         assert!(rt; self.runs.next() == t);
-        self.runs.forward_run(&self.cube, y, x, residuals);
+        let rows = Rows::of(&self.cube, y);
+        self.runs.forward_run(&rows, x, residuals);
     }
 
     /// Returns the residual at one place.

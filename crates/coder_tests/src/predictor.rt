@@ -16,6 +16,7 @@ use cube_core::shape::Shape;
 use header_bits::params::Params;
 use predict_core::band::Band;
 use predict_core::residual::{map_residual, unmap_residual};
+use predict_core::rows::Rows;
 use std::alloc::Global;
 use std::process::Abort;
 
@@ -210,7 +211,8 @@ fn mapping_there_and_back(rt: HostRuntime) {
 fn coded_row(rt: &impl Abort, coder: &mut BandOfA, cube: &CubeOfA, y: u32) -> [u16; 3] {
     assert!(rt; y < 2);
     assert!(rt; coder.band.next() == u64::from(y) * 3);
-    coder.band.predict_piece(&cube.cube, y, 0, 3);
+    let rows = Rows::of(&cube.cube, y);
+    coder.band.predict_piece(&rows, 0, 3);
     [
         coder.band.piece_residual(0),
         coder.band.piece_residual(1),

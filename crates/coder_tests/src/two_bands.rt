@@ -8,6 +8,7 @@ use crate::predicted_runs::{Draw, Twice, cube_of, params_of, raster_index};
 use cube_core::cube::Cube;
 use header_bits::params::Params;
 use predict_core::band::Band;
+use predict_core::rows::Rows;
 use std::alloc::Global;
 use std::process::Abort;
 
@@ -32,8 +33,9 @@ impl Both {
         let t = raster_index(rt, self.cube.shape(), y, x, count as usize);
         assert!(rt; self.lower.next() == t);
         assert!(rt; self.upper.next() == t);
+        let rows = Rows::of(&self.cube, y);
         self.lower
-            .predict_pieces(&mut self.upper, &self.cube, y, x, count as usize);
+            .predict_pieces(&mut self.upper, &rows, x, count as usize);
     }
 }
 

@@ -12,6 +12,7 @@ use cube_core::cube::Cube;
 use header_bits::params::Params;
 use predict_core::band::Band;
 use predict_core::group::room::GroupRoom;
+use predict_core::rows::Rows;
 
 /// Sends the residuals of some bands, band after band. Returns false if the taker has stopped.
 ///
@@ -99,10 +100,10 @@ fn send_all_planes<T: Taker>(
     let columns = shape.columns() as usize;
     let plane = shape.rows() as usize * columns;
     for y in 0..shape.rows() {
+        let rows = Rows::of(cube, y);
         keep_row(
-            cube,
+            &rows,
             params,
-            y,
             y as usize * columns,
             plane,
             bands,
@@ -134,8 +135,9 @@ fn send_first_plane<T: Taker>(
     let columns = shape.columns() as usize;
     let plane = shape.rows() as usize * columns;
     for y in 0..shape.rows() {
+        let rows = Rows::of(cube, y);
         let start = y as usize * columns;
-        if !send_first_row(cube, params, y, start, plane, bands, room, group, taker) {
+        if !send_first_row(&rows, params, start, plane, bands, room, group, taker) {
             return false;
         }
     }

@@ -13,6 +13,7 @@ use cube_core::cube::Cube;
 use header_bits::params::Params;
 use predict_core::band::Band;
 use predict_core::group::room::GroupRoom;
+use predict_core::rows::Rows;
 
 /// The greatest number of residuals that are kept: seven rows of 2048 columns.
 const ROOM: usize = 14336;
@@ -34,43 +35,42 @@ pub(crate) fn send_each_line<T: Taker>(
     let mut room = [0; ROOM];
     let mut group = GroupRoom::new();
     for y in 0..cube.shape().rows() {
-        if !send_each_row(cube, params, y, bands, &mut room, &mut group, taker) {
+        let rows = Rows::of(cube, y);
+        if !send_each_row(&rows, params, bands, &mut room, &mut group, taker) {
             return false;
         }
     }
     true
 }
 
-/// Sends the residuals of some bands in row `y`, band after band. Returns false if the taker has stopped.
+/// Sends the residuals of some bands in a row, band after band. Returns false if the taker has stopped.
 ///
 /// As many bands at a time go over their rows side by side as are predicted at once, or as there is room for the rows of.
 #[tactic(auto, using(crate::proofs::Sending::bands_put))]
 fn send_each_row<T: Taker>(
-    cube: &Cube,
+    rows: &Rows,
     params: &Params,
-    y: u32,
     bands: &mut [Band],
     room: &mut [u16; ROOM],
     group: &mut GroupRoom,
     taker: &mut T,
 ) -> bool
-    requires image { IsSeen params.now cube.now }
-    requires row { y < cube.now.shape.rows }
-    requires at { AreAt params.now cube.now (y * cube.now.shape.columns) bands.old }
-    requires may { T.may taker.old (flat_map (λ z. row_of params.now cube.now (z ∷ []) y) (bands_of bands.old)) }
-    ensures sent { T.takes taker.old taker.new result (flat_map (λ z. row_of params.now cube.now (z ∷ []) y) (bands_of bands.old)) }
-    ensures at { IsTrue result → AreAt params.now cube.now ((y + 1) * cube.now.shape.columns) bands.new }
+    requires image { IsSeen params.now rows.now.image }
+    requires row { rows.now.y < rows.now.image.shape.rows }
+    requires at { AreAt params.now rows.now.image (rows.now.y * rows.now.image.shape.columns) bands.old }
+    requires may { T.may taker.old (flat_map (λ z. row_of params.now rows.now.image (z ∷ []) rows.now.y) (bands_of bands.old)) }
+    ensures sent { T.takes taker.old taker.new result (flat_map (λ z. row_of params.now rows.now.image (z ∷ []) rows.now.y) (bands_of bands.old)) }
+    ensures at { IsTrue result → AreAt params.now rows.now.image ((rows.now.y + 1) * rows.now.image.shape.columns) bands.new }
     ensures same { bands_of bands.new ≡ bands_of bands.old }
 {
-    let columns = cube.shape().columns() as usize;
+    let columns = rows.shape().columns() as usize;
     let most = GROUP.min(1 + ROOM / columns);
     let mut first = 0;
     while first < bands.len() {
         let count = most.min(bands.len() - first);
         if !send_next_rows(
-            cube,
+            rows,
             params,
-            y,
             &mut bands[first..first + count],
             room,
             group,
@@ -86,26 +86,25 @@ fn send_each_row<T: Taker>(
 /// Does the same for one band or more, which go over their rows side by side: all rows but the first are kept until that
 /// one was sent.
 fn send_next_rows<T: Taker>(
-    cube: &Cube,
+    rows: &Rows,
     params: &Params,
-    y: u32,
     bands: &mut [Band],
     room: &mut [u16; ROOM],
     group: &mut GroupRoom,
     taker: &mut T,
 ) -> bool
-    requires image { IsSeen params.now cube.now }
-    requires row { y < cube.now.shape.rows }
+    requires image { IsSeen params.now rows.now.image }
+    requires row { rows.now.y < rows.now.image.shape.rows }
     requires some { 1 ≤ length bands.old }
-    requires room { (length bands.old - 1) * cube.now.shape.columns ≤ 14336 }
-    requires at { AreAt params.now cube.now (y * cube.now.shape.columns) bands.old }
-    requires may { T.may taker.old (flat_map (λ z. row_of params.now cube.now (z ∷ []) y) (bands_of bands.old)) }
-    ensures sent { T.takes taker.old taker.new result (flat_map (λ z. row_of params.now cube.now (z ∷ []) y) (bands_of bands.old)) }
-    ensures at { IsTrue result → AreAt params.now cube.now ((y + 1) * cube.now.shape.columns) bands.new }
+    requires room { (length bands.old - 1) * rows.now.image.shape.columns ≤ 14336 }
+    requires at { AreAt params.now rows.now.image (rows.now.y * rows.now.image.shape.columns) bands.old }
+    requires may { T.may taker.old (flat_map (λ z. row_of params.now rows.now.image (z ∷ []) rows.now.y) (bands_of bands.old)) }
+    ensures sent { T.takes taker.old taker.new result (flat_map (λ z. row_of params.now rows.now.image (z ∷ []) rows.now.y) (bands_of bands.old)) }
+    ensures at { IsTrue result → AreAt params.now rows.now.image ((rows.now.y + 1) * rows.now.image.shape.columns) bands.new }
     ensures same { bands_of bands.new ≡ bands_of bands.old }
 {
-    let columns = cube.shape().columns() as usize;
-    if !send_first_row(cube, params, y, 0, columns, bands, room, group, taker) {
+    let columns = rows.shape().columns() as usize;
+    if !send_first_row(rows, params, 0, columns, bands, room, group, taker) {
         return false;
     }
     taker.take(&room[..(bands.len() - 1) * columns])

@@ -7,11 +7,11 @@ ghost use Rattle.file_encoding.specs.Walks.{IsSeen, AreAt, bands_of};
 ghost use Rattle.file_encoding.specs.Pieces.{ArePast, held_at, held_of};
 
 use crate::taker::Taker;
-use cube_core::cube::Cube;
 use header_bits::params::Params;
 use predict_core::band::Band;
 use predict_core::group::predict::predict_group;
 use predict_core::group::room::GroupRoom;
+use predict_core::rows::Rows;
 
 /// The greatest number of residuals of several bands that are passed on at once.
 pub(crate) const RUN: usize = 2048;
@@ -19,28 +19,27 @@ pub(crate) const RUN: usize = 2048;
 /// The greatest number of bands that are predicted at once.
 pub(crate) const GROUP: usize = 8;
 
-/// Has each of some bands go over `count` places of row `y`, from column `x` on, and hold their residuals.
+/// Has each of some bands go over `count` places of a row, from column `x` on, and hold their residuals.
 pub(crate) fn predict_pieces(
-    cube: &Cube,
+    rows: &Rows,
     params: &Params,
-    y: u32,
     x: u32,
     count: u32,
     bands: &mut [Band],
     group: &mut GroupRoom,
 )
-    requires image { IsSeen params.now cube.now }
-    requires place { (y < cube.now.shape.rows) × (x < cube.now.shape.columns) }
-    requires piece { (count ≤ 64) × (x + count ≤ cube.now.shape.columns) }
-    requires at { AreAt params.now cube.now (y * cube.now.shape.columns + x) bands.old }
-    ensures past { ArePast params.now cube.now (y * cube.now.shape.columns + x) count bands.new }
+    requires image { IsSeen params.now rows.now.image }
+    requires place { (rows.now.y < rows.now.image.shape.rows) × (x < rows.now.image.shape.columns) }
+    requires piece { (count ≤ 64) × (x + count ≤ rows.now.image.shape.columns) }
+    requires at { AreAt params.now rows.now.image (rows.now.y * rows.now.image.shape.columns + x) bands.old }
+    ensures past { ArePast params.now rows.now.image (rows.now.y * rows.now.image.shape.columns + x) count bands.new }
     ensures same { bands_of bands.new ≡ bands_of bands.old }
 {
     let count = count as usize;
     let mut first = 0;
     while first < bands.len() {
         let last = bands.len().min(first + GROUP);
-        predict_group(&mut bands[first..last], cube, y, x, count, group);
+        predict_group(&mut bands[first..last], rows, x, count, group);
         first = last;
     }
 }

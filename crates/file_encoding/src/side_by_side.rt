@@ -9,20 +9,19 @@ ghost use Rattle.file_encoding.specs.Walks.{IsSeen, AreAt, bands_of};
 use crate::pieces::predict_pieces;
 use crate::taker::Taker;
 use crate::walk::PIECE;
-use cube_core::cube::Cube;
 use header_bits::params::Params;
 use predict_core::band::Band;
 use predict_core::group::room::GroupRoom;
+use predict_core::rows::Rows;
 
-/// Sends the residuals of the first of some bands in row `y`, and keeps those of the others. Returns false if the taker has
+/// Sends the residuals of the first of some bands in a row, and keeps those of the others. Returns false if the taker has
 /// stopped.
 ///
 /// Each of the others has a stretch of the room, of `stretch` numbers, band after band; its residuals are written there
 /// from number `start` on.
 pub(crate) fn send_first_row<T: Taker>(
-    cube: &Cube,
+    rows: &Rows,
     params: &Params,
-    y: u32,
     start: usize,
     stretch: usize,
     bands: &mut [Band],
@@ -30,24 +29,24 @@ pub(crate) fn send_first_row<T: Taker>(
     group: &mut GroupRoom,
     taker: &mut T,
 ) -> bool
-    requires image { IsSeen params.now cube.now }
-    requires row { y < cube.now.shape.rows }
+    requires image { IsSeen params.now rows.now.image }
+    requires row { rows.now.y < rows.now.image.shape.rows }
     requires some { 1 ≤ length bands.old }
-    requires inside { start + cube.now.shape.columns ≤ stretch }
+    requires inside { start + rows.now.image.shape.columns ≤ stretch }
     requires room { (length bands.old - 1) * stretch ≤ length room.old }
-    requires at { AreAt params.now cube.now (y * cube.now.shape.columns) bands.old }
-    requires may { T.may taker.old (row_of params.now cube.now (slice_index_or (bands_of bands.old) 0 0 ∷ []) y) }
-    ensures sent { T.takes taker.old taker.new result (row_of params.now cube.now (slice_index_or (bands_of bands.old) 0 0 ∷ []) y) }
-    ensures kept { IsTrue result → (k : ℕ) → k + 1 < length bands.old → row_start stretch k (start + cube.now.shape.columns) room.new
-        ≡ row_start stretch k start room.old ++ row_of params.now cube.now (slice_index_or (bands_of bands.old) (k + 1) 0 ∷ []) y }
-    ensures at { IsTrue result → AreAt params.now cube.now ((y + 1) * cube.now.shape.columns) bands.new }
+    requires at { AreAt params.now rows.now.image (rows.now.y * rows.now.image.shape.columns) bands.old }
+    requires may { T.may taker.old (row_of params.now rows.now.image (slice_index_or (bands_of bands.old) 0 0 ∷ []) rows.now.y) }
+    ensures sent { T.takes taker.old taker.new result (row_of params.now rows.now.image (slice_index_or (bands_of bands.old) 0 0 ∷ []) rows.now.y) }
+    ensures kept { IsTrue result → (k : ℕ) → k + 1 < length bands.old → row_start stretch k (start + rows.now.image.shape.columns) room.new
+        ≡ row_start stretch k start room.old ++ row_of params.now rows.now.image (slice_index_or (bands_of bands.old) (k + 1) 0 ∷ []) rows.now.y }
+    ensures at { IsTrue result → AreAt params.now rows.now.image ((rows.now.y + 1) * rows.now.image.shape.columns) bands.new }
     ensures same { bands_of bands.new ≡ bands_of bands.old }
 {
-    let columns = cube.shape().columns();
+    let columns = rows.shape().columns();
     let mut x = 0;
     while x < columns {
         let count = PIECE.min(columns - x);
-        predict_pieces(cube, params, y, x, count, bands, group);
+        predict_pieces(rows, params, x, count, bands, group);
         if !taker.take(bands[0].piece_residuals(count as usize)) {
             return false;
         }
@@ -57,34 +56,33 @@ pub(crate) fn send_first_row<T: Taker>(
     true
 }
 
-/// Keeps the residuals of some bands in row `y`.
+/// Keeps the residuals of some bands in a row.
 ///
 /// Each has a stretch of the room, of `stretch` numbers, band after band; its residuals are written there from number `start` on.
 pub(crate) fn keep_row(
-    cube: &Cube,
+    rows: &Rows,
     params: &Params,
-    y: u32,
     start: usize,
     stretch: usize,
     bands: &mut [Band],
     room: &mut [u16],
     group: &mut GroupRoom,
 )
-    requires image { IsSeen params.now cube.now }
-    requires row { y < cube.now.shape.rows }
-    requires inside { start + cube.now.shape.columns ≤ stretch }
+    requires image { IsSeen params.now rows.now.image }
+    requires row { rows.now.y < rows.now.image.shape.rows }
+    requires inside { start + rows.now.image.shape.columns ≤ stretch }
     requires room { length bands.old * stretch ≤ length room.old }
-    requires at { AreAt params.now cube.now (y * cube.now.shape.columns) bands.old }
-    ensures kept { (k : ℕ) → k < length bands.old → row_start stretch k (start + cube.now.shape.columns) room.new
-        ≡ row_start stretch k start room.old ++ row_of params.now cube.now (slice_index_or (bands_of bands.old) k 0 ∷ []) y }
-    ensures at { AreAt params.now cube.now ((y + 1) * cube.now.shape.columns) bands.new }
+    requires at { AreAt params.now rows.now.image (rows.now.y * rows.now.image.shape.columns) bands.old }
+    ensures kept { (k : ℕ) → k < length bands.old → row_start stretch k (start + rows.now.image.shape.columns) room.new
+        ≡ row_start stretch k start room.old ++ row_of params.now rows.now.image (slice_index_or (bands_of bands.old) k 0 ∷ []) rows.now.y }
+    ensures at { AreAt params.now rows.now.image ((rows.now.y + 1) * rows.now.image.shape.columns) bands.new }
     ensures same { bands_of bands.new ≡ bands_of bands.old }
 {
-    let columns = cube.shape().columns();
+    let columns = rows.shape().columns();
     let mut x = 0;
     while x < columns {
         let count = PIECE.min(columns - x);
-        predict_pieces(cube, params, y, x, count, bands, group);
+        predict_pieces(rows, params, x, count, bands, group);
         keep_pieces(start + x as usize, count as usize, stretch, 0, bands, room);
         x += count;
     }

@@ -16,37 +16,37 @@ use cube_core::order::Order;
 use header_bits::params::Params;
 use predict_core::band::Band;
 use predict_core::group::room::GroupRoom;
+use predict_core::rows::Rows;
 use std::alloc::Global;
 
 /// The greatest number of places in a piece of a row.
 pub(crate) const PIECE: u32 = 64;
 
-/// Sends the residuals of some bands in row `y`, column after column. Returns false if the taker has stopped.
+/// Sends the residuals of some bands in a row, column after column. Returns false if the taker has stopped.
 pub(crate) fn send_row<T: Taker>(
-    cube: &Cube,
+    rows: &Rows,
     params: &Params,
-    y: u32,
     bands: &mut [Band],
     group: &mut GroupRoom,
     taker: &mut T,
 ) -> bool
-    requires image { IsSeen params.now cube.now }
-    requires row { y < cube.now.shape.rows }
-    requires at { AreAt params.now cube.now (y * cube.now.shape.columns) bands.old }
-    requires may { T.may taker.old (row_of params.now cube.now (bands_of bands.old) y) }
-    ensures sent { T.takes taker.old taker.new result (row_of params.now cube.now (bands_of bands.old) y) }
-    ensures at { IsTrue result → AreAt params.now cube.now ((y + 1) * cube.now.shape.columns) bands.new }
+    requires image { IsSeen params.now rows.now.image }
+    requires row { rows.now.y < rows.now.image.shape.rows }
+    requires at { AreAt params.now rows.now.image (rows.now.y * rows.now.image.shape.columns) bands.old }
+    requires may { T.may taker.old (row_of params.now rows.now.image (bands_of bands.old) rows.now.y) }
+    ensures sent { T.takes taker.old taker.new result (row_of params.now rows.now.image (bands_of bands.old) rows.now.y) }
+    ensures at { IsTrue result → AreAt params.now rows.now.image ((rows.now.y + 1) * rows.now.image.shape.columns) bands.new }
     ensures same { bands_of bands.new ≡ bands_of bands.old }
 {
     if bands.is_empty() {
         return true;
     }
-    let columns = cube.shape().columns();
+    let columns = rows.shape().columns();
     let mut room = [0; RUN];
     let mut x = 0;
     while x < columns {
         let count = PIECE.min(columns - x);
-        predict_pieces(cube, params, y, x, count, bands, group);
+        predict_pieces(rows, params, x, count, bands, group);
         if !send_pieces(count as usize, bands, &mut room, taker) {
             return false;
         }
@@ -81,31 +81,30 @@ fn count_own(deal: &[u8], predictor: u32, first: u32, end: u32) -> usize
     count
 }
 
-/// Sends the residuals of a predictor's bands in row `y`, group after group of bands. Returns false if the
+/// Sends the residuals of a predictor's bands in a row, group after group of bands. Returns false if the
 /// taker has stopped.
 #[tactic(auto, using(crate::proofs::Sending::bands_put))]
 fn send_line<T: Taker>(
-    cube: &Cube,
+    rows: &Rows,
     params: &Params,
     predictor: u32,
     deal: &[u8],
     depth: u32,
-    y: u32,
     bands: &mut [Band],
     group: &mut GroupRoom,
     taker: &mut T,
 ) -> bool
-    requires image { IsSeen params.now cube.now }
+    requires image { IsSeen params.now rows.now.image }
     requires depth { (1 ≤ depth) × (depth ≤ 65536) }
-    requires row { y < cube.now.shape.rows }
-    requires own { bands_of bands.old ≡ own predictor deal.now (upto cube.now.shape.bands) }
-    requires at { AreAt params.now cube.now (y * cube.now.shape.columns) bands.old }
-    requires may { T.may taker.old (line_of params.now cube.now predictor deal.now depth y) }
-    ensures sent { T.takes taker.old taker.new result (line_of params.now cube.now predictor deal.now depth y) }
-    ensures at { IsTrue result → AreAt params.now cube.now ((y + 1) * cube.now.shape.columns) bands.new }
+    requires row { rows.now.y < rows.now.image.shape.rows }
+    requires own { bands_of bands.old ≡ own predictor deal.now (upto rows.now.image.shape.bands) }
+    requires at { AreAt params.now rows.now.image (rows.now.y * rows.now.image.shape.columns) bands.old }
+    requires may { T.may taker.old (line_of params.now rows.now.image predictor deal.now depth rows.now.y) }
+    ensures sent { T.takes taker.old taker.new result (line_of params.now rows.now.image predictor deal.now depth rows.now.y) }
+    ensures at { IsTrue result → AreAt params.now rows.now.image ((rows.now.y + 1) * rows.now.image.shape.columns) bands.new }
     ensures same { bands_of bands.new ≡ bands_of bands.old }
 {
-    let total = cube.shape().bands();
+    let total = rows.shape().bands();
     let groups = (total + depth - 1) / depth;
     let mut first = 0;
     let mut slot = 0;
@@ -113,14 +112,7 @@ fn send_line<T: Taker>(
         let _group = i;
         let end = total.min(first + depth);
         let count = count_own(deal, predictor, first, end);
-        if !send_row(
-            cube,
-            params,
-            y,
-            &mut bands[slot..slot + count],
-            group,
-            taker,
-        ) {
+        if !send_row(rows, params, &mut bands[slot..slot + count], group, taker) {
             return false;
         }
         first = end;
@@ -151,8 +143,9 @@ fn send_lines<T: Taker>(
     }
     let mut group = GroupRoom::new();
     for y in 0..cube.shape().rows() {
+        let rows = Rows::of(cube, y);
         if !send_line(
-            cube, params, predictor, deal, depth, y, bands, &mut group, taker,
+            &rows, params, predictor, deal, depth, bands, &mut group, taker,
         ) {
             return false;
         }

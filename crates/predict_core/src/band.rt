@@ -19,6 +19,7 @@ use cube_core::fault::Fault;
 use cube_core::shape::Shape;
 use header_bits::params::Params;
 use sample_prediction::predictor::{MOST_COMPONENTS, Predictor};
+use sample_prediction::rows::Rows;
 use sample_prediction::sample_limits::SampleLimits;
 use sample_prediction::start::start_of;
 use std::alloc::Global;
@@ -102,8 +103,6 @@ impl Band {
     ///
     /// The cube has the shape and kind of the parameters, and the next place is row `y`, column `x`. The result
     /// is at most 2^D - 1 (CCSDS 123.0-B-1, "Predictor"). The band holds its last piece as before.
-    // Inlined into a loop over places it is slower.
-    #[inline(never)]
     pub fn forward(&mut self, cube: &Cube, y: u32, x: u32) -> u16
         requires shape { cube.now.shape ≡ self.old.shape }
         requires kind { cube.now.kind ≡ self.old.kind }
@@ -115,12 +114,32 @@ impl Band {
         ensures residual { (p : Parameters) → Follows p self.old cube.now → result ≡ mapped_residual p cube.now self.old.band self.old.t }
         ensures follows { (p : Parameters) → Follows p self.old cube.now → Follows p self.new cube.now }
     {
+        let rows = Rows::of(cube, y);
+        self.forward_in(&rows, y, x)
+    }
+
+    /// `forward` for the image of `rows`, which are those of row `y`.
+    // Inlined into a loop over places it is slower.
+    #[inline(never)]
+    pub(crate) fn forward_in(&mut self, rows: &Rows, y: u32, x: u32) -> u16
+        requires row { rows.now.y ≡ y }
+        requires shape { rows.now.image.shape ≡ self.old.shape }
+        requires kind { rows.now.image.kind ≡ self.old.kind }
+        requires place { IsPlace rows.now.image.shape self.old.band y x }
+        requires next { self.old.t ≡ y * rows.now.image.shape.columns + x }
+        ensures moved { MovesOn self.old self.new }
+        ensures held { self.new.piece ≡ self.old.piece }
+        ensures bound { result < 2 ^ rows.now.image.kind.bits }
+        ensures residual { (p : Parameters) → Follows p self.old rows.now.image
+            → result ≡ mapped_residual p rows.now.image self.old.band self.old.t }
+        ensures follows { (p : Parameters) → Follows p self.old rows.now.image → Follows p self.new rows.now.image }
+    {
         let t = self.next;
         self.next = t + 1;
         if t == 0 {
-            first_residual(&self.settings, cube, y, x)
+            first_residual(&self.settings, rows, y, x)
         } else {
-            next_residual(&self.settings, cube, y, x, t, &mut self.weights)
+            next_residual(&self.settings, rows, y, x, t, &mut self.weights)
         }
     }
 
@@ -145,12 +164,13 @@ impl Band {
         ensures follows { (p : Parameters) → Follows p self.old cube.now → Follows p self.new (put cube.now self.old.band y x result) }
     {
         cube.prove_is_cube();
+        let rows = Rows::of(cube, y);
         let t = self.next;
         self.next = t + 1;
         if t == 0 {
-            first_sample(&self.settings, cube, y, x, delta)
+            first_sample(&self.settings, &rows, y, x, delta)
         } else {
-            next_sample(&self.settings, cube, y, x, t, &mut self.weights, delta)
+            next_sample(&self.settings, &rows, y, x, t, &mut self.weights, delta)
         }
     }
 }
@@ -166,15 +186,17 @@ pub(crate) fn first_spectral(reduced: bool) -> usize
 
 /// Returns the mapped residual at the first place of a band.
 #[inline(always)]
-pub(crate) fn first_residual(settings: &Settings, cube: &Cube, y: u32, x: u32) -> u16
-    requires kind { cube.now.kind ≡ settings.now.range.kind }
-    requires place { IsPlace cube.now.shape settings.now.band y x }
-    ensures value { result ≡ mapped cube.now.kind (first_prediction settings.now.predictor cube.now settings.now.band) (sample_at cube.now settings.now.band
+pub(crate) fn first_residual(settings: &Settings, rows: &Rows, y: u32, x: u32) -> u16
+    requires row { rows.now.y ≡ y }
+    requires first { y ≡ 0 }
+    requires kind { rows.now.image.kind ≡ settings.now.range.kind }
+    requires place { IsPlace rows.now.image.shape settings.now.band y x }
+    ensures value { result ≡ mapped rows.now.image.kind (first_prediction settings.now.predictor rows.now.image settings.now.band) (sample_at rows.now.image settings.now.band
         y x) }
-    ensures bound { result < 2 ^ cube.now.kind.bits }
+    ensures bound { result < 2 ^ rows.now.image.kind.bits }
 {
-    let scaled = first_scaled(settings, cube);
-    let sample = cube.sample(settings.band, y, x);
+    let scaled = first_scaled(settings, rows);
+    let sample = rows.sample(settings.band, x);
     settings.range.residual_of(scaled, sample)
 }
 
@@ -182,46 +204,48 @@ pub(crate) fn first_residual(settings: &Settings, cube: &Cube, y: u32, x: u32) -
 #[inline(always)]
 fn next_residual(
     settings: &Settings,
-    cube: &Cube,
+    rows: &Rows,
     y: u32,
     x: u32,
     t: u64,
     weights: &mut [i32; MOST_COMPONENTS],
 ) -> u16
-    requires columns { cube.now.shape.columns ≡ settings.now.columns }
-    requires kind { cube.now.kind ≡ settings.now.range.kind }
-    requires place { IsPlace cube.now.shape settings.now.band y x }
-    requires t_is { t ≡ y * cube.now.shape.columns + x }
+    requires row { rows.now.y ≡ y }
+    requires columns { rows.now.image.shape.columns ≡ settings.now.columns }
+    requires kind { rows.now.image.kind ≡ settings.now.range.kind }
+    requires place { IsPlace rows.now.image.shape settings.now.band y x }
+    requires t_is { t ≡ y * rows.now.image.shape.columns + x }
     requires t_in { t < 2 ^ 32 }
     requires later { 0 < t }
     requires weights_in { AllWithin (2 ^ (settings.now.predictor.omega + 2)) weights.old }
-    ensures value { result ≡ mapped cube.now.kind (scaled_there settings.now.predictor cube.now settings.now.band y x
-        (take (component_count settings.now.predictor settings.now.band) weights.old)) (sample_at cube.now settings.now.band y x) }
-    ensures range { result < 2 ^ cube.now.kind.bits }
-    ensures weights { take (component_count settings.now.predictor settings.now.band) weights.new ≡ next_weights settings.now.predictor cube.now
+    ensures value { result ≡ mapped rows.now.image.kind (scaled_there settings.now.predictor rows.now.image settings.now.band y x
+        (take (component_count settings.now.predictor settings.now.band) weights.old)) (sample_at rows.now.image settings.now.band y x) }
+    ensures range { result < 2 ^ rows.now.image.kind.bits }
+    ensures weights { take (component_count settings.now.predictor settings.now.band) weights.new ≡ next_weights settings.now.predictor rows.now.image
         settings.now.band t (take (component_count settings.now.predictor settings.now.band) weights.old) }
     ensures bound { AllWithin (2 ^ (settings.now.predictor.omega + 2)) weights.new }
 {
-    let prediction = predict(settings, cube, y, x, weights);
-    let sample = cube.sample(settings.band, y, x);
+    let prediction = predict(settings, rows, y, x, weights);
+    let sample = rows.sample(settings.band, x);
     learn(settings, t, weights, &prediction, sample);
     settings.range.residual_of(prediction.scaled, sample)
 }
 
 /// Returns the sample of a mapped residual at the first place of a band.
 #[inline(always)]
-fn first_sample(settings: &Settings, cube: &Cube, y: u32, x: u32, delta: u16) -> i32
-    requires kind { cube.now.kind ≡ settings.now.range.kind }
-    requires columns { cube.now.shape.columns ≡ settings.now.columns }
-    requires place { IsPlace cube.now.shape settings.now.band y x }
-    requires first { 0 ≡ y * cube.now.shape.columns + x }
-    requires residual { delta < 2 ^ cube.now.kind.bits }
-    ensures range { IsSample cube.now.kind result }
-    ensures inverse { mapped cube.now.kind (first_prediction settings.now.predictor (put cube.now settings.now.band y x result) settings.now.band) result
+fn first_sample(settings: &Settings, rows: &Rows, y: u32, x: u32, delta: u16) -> i32
+    requires row { rows.now.y ≡ y }
+    requires kind { rows.now.image.kind ≡ settings.now.range.kind }
+    requires columns { rows.now.image.shape.columns ≡ settings.now.columns }
+    requires place { IsPlace rows.now.image.shape settings.now.band y x }
+    requires first { 0 ≡ y * rows.now.image.shape.columns + x }
+    requires residual { delta < 2 ^ rows.now.image.kind.bits }
+    ensures range { IsSample rows.now.image.kind result }
+    ensures inverse { mapped rows.now.image.kind (first_prediction settings.now.predictor (put rows.now.image settings.now.band y x result) settings.now.band) result
         ≡ delta }
 {
-    cube.prove_is_cube();
-    let scaled = first_scaled(settings, cube);
+    rows.prove_is_row();
+    let scaled = first_scaled(settings, rows);
     settings.range.sample_of(scaled, delta)
 }
 
@@ -229,30 +253,31 @@ fn first_sample(settings: &Settings, cube: &Cube, y: u32, x: u32, delta: u16) ->
 #[inline(always)]
 fn next_sample(
     settings: &Settings,
-    cube: &Cube,
+    rows: &Rows,
     y: u32,
     x: u32,
     t: u64,
     weights: &mut [i32; MOST_COMPONENTS],
     delta: u16,
 ) -> i32
-    requires columns { cube.now.shape.columns ≡ settings.now.columns }
-    requires kind { cube.now.kind ≡ settings.now.range.kind }
-    requires place { IsPlace cube.now.shape settings.now.band y x }
-    requires t_is { t ≡ y * cube.now.shape.columns + x }
+    requires row { rows.now.y ≡ y }
+    requires columns { rows.now.image.shape.columns ≡ settings.now.columns }
+    requires kind { rows.now.image.kind ≡ settings.now.range.kind }
+    requires place { IsPlace rows.now.image.shape settings.now.band y x }
+    requires t_is { t ≡ y * rows.now.image.shape.columns + x }
     requires t_in { t < 2 ^ 32 }
     requires later { 0 < t }
     requires weights_in { AllWithin (2 ^ (settings.now.predictor.omega + 2)) weights.old }
-    requires residual { delta < 2 ^ cube.now.kind.bits }
-    ensures range { IsSample cube.now.kind result }
-    ensures inverse { mapped cube.now.kind (scaled_there settings.now.predictor (put cube.now settings.now.band y x result) settings.now.band y x
+    requires residual { delta < 2 ^ rows.now.image.kind.bits }
+    ensures range { IsSample rows.now.image.kind result }
+    ensures inverse { mapped rows.now.image.kind (scaled_there settings.now.predictor (put rows.now.image settings.now.band y x result) settings.now.band y x
         (take (component_count settings.now.predictor settings.now.band) weights.old)) result ≡ delta }
     ensures weights { take (component_count settings.now.predictor settings.now.band) weights.new ≡ next_weights settings.now.predictor
-        (put cube.now settings.now.band y x result) settings.now.band t (take (component_count settings.now.predictor settings.now.band) weights.old) }
+        (put rows.now.image settings.now.band y x result) settings.now.band t (take (component_count settings.now.predictor settings.now.band) weights.old) }
     ensures bound { AllWithin (2 ^ (settings.now.predictor.omega + 2)) weights.new }
 {
-    cube.prove_is_cube();
-    let prediction = predict(settings, cube, y, x, weights);
+    rows.prove_is_row();
+    let prediction = predict(settings, rows, y, x, weights);
     let found = settings.range.sample_of(prediction.scaled, delta);
     learn(settings, t, weights, &prediction, found);
     found

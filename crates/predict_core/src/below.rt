@@ -12,13 +12,13 @@ use crate::fills::{fill_four, fill_two};
 use crate::lines::{Lines, fill_band_lines, is_column};
 use crate::room::Quad;
 use crate::settings::Settings;
-use cube_core::cube::Cube;
+use sample_prediction::rows::Rows;
 
 /// Writes the quads after the first `first` ones: the central differences of the bands below, from the one that is `nearest`
 /// bands below on.
 pub(crate) fn fill_spectral<const Q: usize>(
     settings: &Settings,
-    cube: &Cube,
+    rows: &Rows,
     y: u32,
     x: u32,
     count: usize,
@@ -26,76 +26,79 @@ pub(crate) fn fill_spectral<const Q: usize>(
     nearest: usize,
     quads: &mut [Quad; Q],
 )
-    requires place { IsPlace cube.now.shape settings.now.band y x }
-    requires columns { cube.now.shape.columns ≡ settings.now.columns }
+    requires row { rows.now.y ≡ y }
+    requires place { IsPlace rows.now.image.shape settings.now.band y x }
+    requires columns { rows.now.image.shape.columns ≡ settings.now.columns }
     requires some { 1 ≤ count }
     requires few { count ≤ 64 }
-    requires inside { x + count ≤ cube.now.shape.columns }
+    requires inside { x + count ≤ rows.now.image.shape.columns }
     requires enough { quads_of settings.now.count ≤ Q }
     requires first_in { first ≤ quads_of settings.now.count }
     requires nearest_in { (1 ≤ nearest) × (nearest ≤ 2) }
     ensures { (i : ℕ) → i < count → 0 < y + (x + i) → components_at (quads_of settings.now.count) quads.new i ≡ components_at first quads.old i
-        ++ lower_differences settings.now.predictor cube.now settings.now.band y (x + i) nearest (4 * (quads_of settings.now.count - first)) }
+        ++ lower_differences settings.now.predictor rows.now.image settings.now.band y (x + i) nearest (4 * (quads_of settings.now.count - first)) }
 {
     for q in first..(settings.count + 3) / 4 {
         let quad = &mut quads[q];
-        fill_lower(settings, cube, y, x, count, nearest + 4 * (q - first), quad);
+        fill_lower(settings, rows, y, x, count, nearest + 4 * (q - first), quad);
     }
 }
 
 /// Writes the central differences of four bands, from the one that is `nearest` bands below on.
 fn fill_lower(
     settings: &Settings,
-    cube: &Cube,
+    rows: &Rows,
     y: u32,
     x: u32,
     count: usize,
     nearest: usize,
     quad: &mut Quad,
 )
-    requires place { IsPlace cube.now.shape settings.now.band y x }
-    requires columns { cube.now.shape.columns ≡ settings.now.columns }
+    requires row { rows.now.y ≡ y }
+    requires place { IsPlace rows.now.image.shape settings.now.band y x }
+    requires columns { rows.now.image.shape.columns ≡ settings.now.columns }
     requires some { 1 ≤ count }
     requires few { count ≤ 64 }
-    requires inside { x + count ≤ cube.now.shape.columns }
+    requires inside { x + count ≤ rows.now.image.shape.columns }
     requires nearest_in { (1 ≤ nearest) × (nearest ≤ 64) }
     ensures { (i : ℕ) → i < count → 0 < y + (x + i)
-        → slice_index_or quad.new.places i [] ≡ lower_differences settings.now.predictor cube.now settings.now.band y (x + i) nearest 4 }
+        → slice_index_or quad.new.places i [] ≡ lower_differences settings.now.predictor rows.now.image settings.now.band y (x + i) nearest 4 }
 {
     if settings.near <= nearest + 1 {
-        fill_last_two(settings, cube, y, x, count, nearest, quad);
+        fill_last_two(settings, rows, y, x, count, nearest, quad);
     } else {
-        fill_next_four(settings, cube, y, x, count, nearest, quad);
+        fill_next_four(settings, rows, y, x, count, nearest, quad);
     }
 }
 
 /// `fill_lower` if at least three of the bands are used.
 fn fill_next_four(
     settings: &Settings,
-    cube: &Cube,
+    rows: &Rows,
     y: u32,
     x: u32,
     count: usize,
     nearest: usize,
     quad: &mut Quad,
 )
-    requires place { IsPlace cube.now.shape settings.now.band y x }
-    requires columns { cube.now.shape.columns ≡ settings.now.columns }
+    requires row { rows.now.y ≡ y }
+    requires place { IsPlace rows.now.image.shape settings.now.band y x }
+    requires columns { rows.now.image.shape.columns ≡ settings.now.columns }
     requires some { 1 ≤ count }
     requires few { count ≤ 64 }
-    requires inside { x + count ≤ cube.now.shape.columns }
+    requires inside { x + count ≤ rows.now.image.shape.columns }
     requires nearest_in { (1 ≤ nearest) × (nearest ≤ 64) }
     ensures { (i : ℕ) → i < count → 0 < y + (x + i)
-        → slice_index_or quad.new.places i [] ≡ lower_differences settings.now.predictor cube.now settings.now.band y (x + i) nearest 4 }
+        → slice_index_or quad.new.places i [] ≡ lower_differences settings.now.predictor rows.now.image settings.now.band y (x + i) nearest 4 }
 {
     let mut first = Lines::empty();
     let mut second = Lines::empty();
     let mut third = Lines::empty();
     let mut fourth = Lines::empty();
-    fill_below(settings, cube, y, x, count, nearest, &mut first);
-    fill_below(settings, cube, y, x, count, nearest + 1, &mut second);
-    fill_below(settings, cube, y, x, count, nearest + 2, &mut third);
-    fill_below(settings, cube, y, x, count, nearest + 3, &mut fourth);
+    fill_below(settings, rows, y, x, count, nearest, &mut first);
+    fill_below(settings, rows, y, x, count, nearest + 1, &mut second);
+    fill_below(settings, rows, y, x, count, nearest + 2, &mut third);
+    fill_below(settings, rows, y, x, count, nearest + 3, &mut fourth);
     let column = is_column(settings.predictor.column, y);
     fill_four(column, &first, &second, &third, &fourth, &mut quad.places);
 }
@@ -103,27 +106,28 @@ fn fill_next_four(
 /// `fill_lower` if at most two of the bands are used, with less work for each place.
 fn fill_last_two(
     settings: &Settings,
-    cube: &Cube,
+    rows: &Rows,
     y: u32,
     x: u32,
     count: usize,
     nearest: usize,
     quad: &mut Quad,
 )
-    requires place { IsPlace cube.now.shape settings.now.band y x }
-    requires columns { cube.now.shape.columns ≡ settings.now.columns }
+    requires row { rows.now.y ≡ y }
+    requires place { IsPlace rows.now.image.shape settings.now.band y x }
+    requires columns { rows.now.image.shape.columns ≡ settings.now.columns }
     requires some { 1 ≤ count }
     requires few { count ≤ 64 }
-    requires inside { x + count ≤ cube.now.shape.columns }
+    requires inside { x + count ≤ rows.now.image.shape.columns }
     requires nearest_in { (1 ≤ nearest) × (nearest ≤ 64) }
     requires last { settings.now.near ≤ nearest + 1 }
     ensures { (i : ℕ) → i < count → 0 < y + (x + i)
-        → slice_index_or quad.new.places i [] ≡ lower_differences settings.now.predictor cube.now settings.now.band y (x + i) nearest 4 }
+        → slice_index_or quad.new.places i [] ≡ lower_differences settings.now.predictor rows.now.image settings.now.band y (x + i) nearest 4 }
 {
     let mut first = Lines::empty();
     let mut second = Lines::empty();
-    fill_below(settings, cube, y, x, count, nearest, &mut first);
-    fill_below(settings, cube, y, x, count, nearest + 1, &mut second);
+    fill_below(settings, rows, y, x, count, nearest, &mut first);
+    fill_below(settings, rows, y, x, count, nearest + 1, &mut second);
     let column = is_column(settings.predictor.column, y);
     fill_two(column, &first, &second, &mut quad.places);
 }
@@ -132,26 +136,27 @@ fn fill_last_two(
 /// empty.
 pub(crate) fn fill_below(
     settings: &Settings,
-    cube: &Cube,
+    rows: &Rows,
     y: u32,
     x: u32,
     count: usize,
     below: usize,
     lines: &mut Lines,
 )
-    requires place { IsPlace cube.now.shape settings.now.band y x }
-    requires columns { cube.now.shape.columns ≡ settings.now.columns }
+    requires row { rows.now.y ≡ y }
+    requires place { IsPlace rows.now.image.shape settings.now.band y x }
+    requires columns { rows.now.image.shape.columns ≡ settings.now.columns }
     requires some { 1 ≤ count }
     requires few { count ≤ 64 }
-    requires inside { x + count ≤ cube.now.shape.columns }
+    requires inside { x + count ≤ rows.now.image.shape.columns }
     requires below_in { 1 ≤ below }
     requires current { lines.old.current ≡ replicate 66 0 }
     requires above { lines.old.above ≡ replicate 66 0 }
     ensures { (i : ℕ) → i < count → 0 < y + (x + i) → line_difference (settings.now.predictor.column || y == 0) lines.new.current lines.new.above i
-        ≡ lower_difference settings.now.predictor cube.now settings.now.band y (x + i) below }
+        ≡ lower_difference settings.now.predictor rows.now.image settings.now.band y (x + i) below }
 {
     if below <= settings.near {
         let z = settings.band - below as u32;
-        fill_band_lines(&settings.predictor, cube, z, y, x, count, lines);
+        fill_band_lines(&settings.predictor, rows, z, y, x, count, lines);
     }
 }

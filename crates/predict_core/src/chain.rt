@@ -19,9 +19,9 @@ ghost use Rattle.predict_core.specs.RunChains.{CanFollow, AreStepsThere, IsFollo
 
 use crate::room::Quad;
 use crate::settings::Settings;
-use cube_core::cube::Cube;
 use sample_prediction::prediction::predicted_difference;
 use sample_prediction::predictor::MOST_COMPONENTS;
+use sample_prediction::rows::Rows;
 use sample_prediction::weights::{step_shift, update_by};
 
 /// The parameters of the weight update that stay the same at places with one exponent.
@@ -119,14 +119,14 @@ fn four_of(components: &[i32; 4]) -> [i32; 4]
     *components
 }
 
-/// Returns the predicted central difference at row `y`, column `x` of a cube, and updates the weights.
+/// Returns the predicted central difference at row `y`, column `x` of an image, and updates the weights.
 ///
 /// `sum` is the local sum of the offsets there. The scaled prediction follows from the difference and the local sum alone. The
 /// place is not the first of its band.
 #[inline(always)]
 fn follow_at<const N: usize, const WRAPS: bool>(
     settings: &Settings,
-    cube: &Cube,
+    rows: &Rows,
     y: u32,
     x: u32,
     steps: Steps,
@@ -138,27 +138,27 @@ fn follow_at<const N: usize, const WRAPS: bool>(
     requires few { N ≤ 18 }
     requires enough { settings.now.count ≤ N }
     requires register { WRAPS ≡ false → 46 ≤ settings.now.predictor.register }
-    requires place { IsPlace cube.now.shape settings.now.band y x }
-    requires columns { cube.now.shape.columns ≡ settings.now.columns }
-    requires kind { cube.now.kind ≡ settings.now.range.kind }
+    requires place { IsPlace rows.now.image.shape settings.now.band y x }
+    requires columns { rows.now.image.shape.columns ≡ settings.now.columns }
+    requires kind { rows.now.image.kind ≡ settings.now.range.kind }
     requires later { 0 < y + x }
     requires omega { steps.omega ≡ settings.now.predictor.omega }
     requires bits { steps.bits ≡ settings.now.range.bits }
-    requires exponent { steps.exponent ≡ step_exponent settings.now.predictor cube.now.shape.columns cube.now.kind.bits (y * cube.now.shape.columns + x) }
-    requires sum_is { pos 4 *ℤ smin cube.now.kind +ℤ sum ≡ local_sum settings.now.predictor cube.now settings.now.band y x }
+    requires exponent { steps.exponent ≡ step_exponent settings.now.predictor rows.now.image.shape.columns rows.now.image.kind.bits (y * rows.now.image.shape.columns + x) }
+    requires sum_is { pos 4 *ℤ smin rows.now.image.kind +ℤ sum ≡ local_sum settings.now.predictor rows.now.image settings.now.band y x }
     requires sum_in { (pos 0 ≤ℤ sum) × (sum ≤ℤ pos 262140) }
-    requires own_is { own ≡ central_difference settings.now.predictor cube.now settings.now.band y x }
+    requires own_is { own ≡ central_difference settings.now.predictor rows.now.image settings.now.band y x }
     requires weights_in { AllWithin (2 ^ (steps.omega + 2)) weights.old }
-    requires differences_are { differences.now ≡ difference_vector settings.now.predictor cube.now settings.now.band y x ++ replicate
+    requires differences_are { differences.now ≡ difference_vector settings.now.predictor rows.now.image settings.now.band y x ++ replicate
         (18 - settings.now.count) (pos 0) }
-    ensures scaled { scaled_there settings.now.predictor cube.now settings.now.band y x (take settings.now.count weights.old)
-        ≡ scaled_by_difference cube.now.kind result (local_sum settings.now.predictor cube.now settings.now.band y x) }
+    ensures scaled { scaled_there settings.now.predictor rows.now.image settings.now.band y x (take settings.now.count weights.old)
+        ≡ scaled_by_difference rows.now.image.kind result (local_sum settings.now.predictor rows.now.image settings.now.band y x) }
     ensures small { unsigned_abs result ≤ 18 * 2 ^ 20 }
-    ensures weights { take settings.now.count weights.new ≡ next_weights settings.now.predictor cube.now settings.now.band (y * cube.now.shape.columns + x)
+    ensures weights { take settings.now.count weights.new ≡ next_weights settings.now.predictor rows.now.image settings.now.band (y * rows.now.image.shape.columns + x)
         (take settings.now.count weights.old) }
     ensures bound { AllWithin (2 ^ (steps.omega + 2)) weights.new }
 {
-    cube.prove_is_cube();
+    rows.prove_is_row();
     let predicted = predicted_difference::<N, WRAPS>(
         &settings.predictor,
         &settings.range,
@@ -183,7 +183,7 @@ pub(crate) struct KnownRun<'a, const Q: usize> {
 /// Writes the predicted central difference of place `i` of a run, and updates the weights.
 #[inline(always)]
 fn follow_place<const Q: usize, const N: usize, const WRAPS: bool>(
-    cube: &Cube,
+    rows: &Rows,
     y: u32,
     x: u32,
     i: usize,
@@ -192,19 +192,19 @@ fn follow_place<const Q: usize, const N: usize, const WRAPS: bool>(
     parts: &mut [i32; 64],
     weights: &mut [i32; MOST_COMPONENTS],
 )
-    requires run { CanFollow Q N WRAPS run.settings.now cube.now y x (i + 1) run.sums.now run.own.now run.quads.now }
+    requires run { CanFollow Q N WRAPS run.settings.now rows.now.image y x (i + 1) run.sums.now run.own.now run.quads.now }
     requires later { 0 < y + (x + i) }
-    requires steps { AreStepsThere run.settings.now cube.now steps.omega steps.bits steps.exponent y (x + i) }
+    requires steps { AreStepsThere run.settings.now rows.now.image steps.omega steps.bits steps.exponent y (x + i) }
     requires weights_in { AllWithin (2 ^ (run.settings.now.predictor.omega + 2)) weights.old }
-    ensures followed { (first : ℕ) (begun : List ℤ) → IsFollowed run.entry.settings.now cube.now y x first begun i weights.old parts.old
-        → IsFollowed run.entry.settings.now cube.now y x first begun (i + 1) weights.new parts.new }
+    ensures followed { (first : ℕ) (begun : List ℤ) → IsFollowed run.entry.settings.now rows.now.image y x first begun i weights.old parts.old
+        → IsFollowed run.entry.settings.now rows.now.image y x first begun (i + 1) weights.new parts.new }
     ensures bound { AllWithin (2 ^ (run.entry.settings.now.predictor.omega + 2)) weights.new }
 {
-    cube.prove_is_cube();
+    rows.prove_is_row();
     let differences = differences_at::<Q>(run.quads, i);
     parts[i] = follow_at::<N, WRAPS>(
         run.settings,
-        cube,
+        rows,
         y,
         x + i as u32,
         steps,
@@ -244,7 +244,7 @@ impl RunState {
 /// The weights are kept in copies of their own, so that the compiler can keep them in registers.
 #[inline(always)]
 pub(crate) fn follow_places<const Q: usize, const N: usize, const WRAPS: bool, const PAIR: bool>(
-    cube: &Cube,
+    rows: &Rows,
     y: u32,
     x: u32,
     first: usize,
@@ -255,29 +255,29 @@ pub(crate) fn follow_places<const Q: usize, const N: usize, const WRAPS: bool, c
     other: KnownRun<Q>,
     beside: &mut RunState,
 )
-    requires run { CanFollow Q N WRAPS run.settings.now cube.now y x last run.sums.now run.own.now run.quads.now }
-    requires other { CanFollow Q N WRAPS other.settings.now cube.now y x last other.sums.now other.own.now other.quads.now }
+    requires run { CanFollow Q N WRAPS run.settings.now rows.now.image y x last run.sums.now run.own.now run.quads.now }
+    requires other { CanFollow Q N WRAPS other.settings.now rows.now.image y x last other.sums.now other.own.now other.quads.now }
     requires order { first ≤ last }
     requires later { 0 < y + (x + first) }
-    requires steps { (i : ℕ) → first ≤ i → i < last → AreStepsThere run.settings.now cube.now steps.omega steps.bits steps.exponent y (x + i) }
+    requires steps { (i : ℕ) → first ≤ i → i < last → AreStepsThere run.settings.now rows.now.image steps.omega steps.bits steps.exponent y (x + i) }
     requires same { other.settings.now.predictor ≡ run.settings.now.predictor }
     requires weights_in { AllWithin (2 ^ (run.settings.now.predictor.omega + 2)) state.old.weights }
     requires other_weights_in { AllWithin (2 ^ (run.settings.now.predictor.omega + 2)) beside.old.weights }
-    ensures followed { (start : ℕ) (begun : List ℤ) → IsFollowed run.entry.settings.now cube.now y x start begun first state.old.weights state.old.parts
-        → IsFollowed run.entry.settings.now cube.now y x start begun last state.new.weights state.new.parts }
+    ensures followed { (start : ℕ) (begun : List ℤ) → IsFollowed run.entry.settings.now rows.now.image y x start begun first state.old.weights state.old.parts
+        → IsFollowed run.entry.settings.now rows.now.image y x start begun last state.new.weights state.new.parts }
     ensures other_followed { PAIR ≡ true → (start : ℕ) (begun : List ℤ)
-        → IsFollowed other.entry.settings.now cube.now y x start begun first beside.old.weights beside.old.parts
-        → IsFollowed other.entry.settings.now cube.now y x start begun last beside.new.weights beside.new.parts }
+        → IsFollowed other.entry.settings.now rows.now.image y x start begun first beside.old.weights beside.old.parts
+        → IsFollowed other.entry.settings.now rows.now.image y x start begun last beside.new.weights beside.new.parts }
     ensures bound { AllWithin (2 ^ (run.entry.settings.now.predictor.omega + 2)) state.new.weights }
     ensures other_bound { AllWithin (2 ^ (run.entry.settings.now.predictor.omega + 2)) beside.new.weights }
 {
     let mut working = state.weights;
     let mut second = beside.weights;
     for i in first..last {
-        follow_place::<Q, N, WRAPS>(cube, y, x, i, steps, run, &mut state.parts, &mut working);
+        follow_place::<Q, N, WRAPS>(rows, y, x, i, steps, run, &mut state.parts, &mut working);
         if PAIR {
             follow_place::<Q, N, WRAPS>(
-                cube,
+                rows,
                 y,
                 x,
                 i,

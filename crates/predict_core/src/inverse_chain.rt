@@ -35,6 +35,7 @@ use sample_prediction::exponent::places_alike;
 use sample_prediction::prediction::predicted_difference;
 use sample_prediction::predictor::MOST_COMPONENTS;
 use sample_prediction::residual::{prediction_of, unmap_by_center};
+use sample_prediction::rows::Rows;
 use sample_prediction::sample_limits::SampleLimits;
 use sample_prediction::weights::{StepShift, update_by};
 
@@ -100,7 +101,7 @@ pub(crate) fn invert_places<const Q: usize, const N: usize, const WRAPS: bool>(
         shift: StepShift::none(),
         end: 0,
     };
-    let mut west = west_of(&cube, settings.band, y, x);
+    let mut west = west_of(&Rows::of(&cube, y), settings.band, y, x);
     for i in 0..deltas.len() {
         let column = x + i as u32;
         stretch = stretch_at(&settings, y, x, i, deltas.len(), stretch);

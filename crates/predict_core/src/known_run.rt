@@ -14,13 +14,13 @@ use crate::mapping::map_run;
 use crate::pieces::follow_run;
 use crate::room::{Quad, fill_run};
 use crate::settings::Settings;
-use cube_core::cube::Cube;
 use sample_prediction::predictor::MOST_COMPONENTS;
+use sample_prediction::rows::Rows;
 
 /// Computes the mapped residuals of a run of `count` places, and updates the weights; with `PAIR` also those of the same
 /// places of another band, which uses as many weights.
 pub(crate) fn predict_run<const PAIR: bool>(
-    cube: &Cube,
+    rows: &Rows,
     y: u32,
     x: u32,
     count: usize,
@@ -29,17 +29,18 @@ pub(crate) fn predict_run<const PAIR: bool>(
     other: &Settings,
     beside: &mut RunState,
 )
-    requires run { CanPredict settings.now cube.now y x count state.old.weights }
-    requires other { CanPredict other.now cube.now y x count beside.old.weights }
+    requires row { rows.now.y ≡ y }
+    requires run { CanPredict settings.now rows.now.image y x count state.old.weights }
+    requires other { CanPredict other.now rows.now.image y x count beside.old.weights }
     requires alike { (other.now.predictor ≡ settings.now.predictor) × (other.now.count ≡ settings.now.count) }
-    ensures predicted { HasPredicted settings.now cube.now y x count state.old.weights state.new.weights state.new.residuals }
-    ensures other_predicted { PAIR ≡ true → HasPredicted other.now cube.now y x count beside.old.weights beside.new.weights beside.new.residuals }
+    ensures predicted { HasPredicted settings.now rows.now.image y x count state.old.weights state.new.weights state.new.residuals }
+    ensures other_predicted { PAIR ≡ true → HasPredicted other.now rows.now.image y x count beside.old.weights beside.new.weights beside.new.residuals }
 {
     let wraps = settings.predictor.register < 46;
     if wraps {
-        predict_in::<true, PAIR>(cube, y, x, count, settings, state, other, beside);
+        predict_in::<true, PAIR>(rows, y, x, count, settings, state, other, beside);
     } else {
-        predict_in::<false, PAIR>(cube, y, x, count, settings, state, other, beside);
+        predict_in::<false, PAIR>(rows, y, x, count, settings, state, other, beside);
     }
 }
 
@@ -47,7 +48,7 @@ pub(crate) fn predict_run<const PAIR: bool>(
 ///
 /// The number of weights is found once, so that the compiler knows it in the loops over places.
 fn predict_in<const WRAPS: bool, const PAIR: bool>(
-    cube: &Cube,
+    rows: &Rows,
     y: u32,
     x: u32,
     count: usize,
@@ -56,27 +57,28 @@ fn predict_in<const WRAPS: bool, const PAIR: bool>(
     other: &Settings,
     beside: &mut RunState,
 )
+    requires row { rows.now.y ≡ y }
     requires register { WRAPS ≡ false → 46 ≤ settings.now.predictor.register }
-    requires run { CanPredict settings.now cube.now y x count state.old.weights }
-    requires other { CanPredict other.now cube.now y x count beside.old.weights }
+    requires run { CanPredict settings.now rows.now.image y x count state.old.weights }
+    requires other { CanPredict other.now rows.now.image y x count beside.old.weights }
     requires alike { (other.now.predictor ≡ settings.now.predictor) × (other.now.count ≡ settings.now.count) }
-    ensures predicted { HasPredicted settings.now cube.now y x count state.old.weights state.new.weights state.new.residuals }
-    ensures other_predicted { PAIR ≡ true → HasPredicted other.now cube.now y x count beside.old.weights beside.new.weights beside.new.residuals }
+    ensures predicted { HasPredicted settings.now rows.now.image y x count state.old.weights state.new.weights state.new.residuals }
+    ensures other_predicted { PAIR ≡ true → HasPredicted other.now rows.now.image y x count beside.old.weights beside.new.weights beside.new.residuals }
 {
     let weights = settings.count;
     if weights == 0 {
-        predict_by::<0, 0, WRAPS, PAIR>(cube, y, x, count, settings, state, other, beside);
+        predict_by::<0, 0, WRAPS, PAIR>(rows, y, x, count, settings, state, other, beside);
     } else if weights <= 4 {
-        predict_by::<1, 4, WRAPS, PAIR>(cube, y, x, count, settings, state, other, beside);
+        predict_by::<1, 4, WRAPS, PAIR>(rows, y, x, count, settings, state, other, beside);
     } else if weights <= 8 {
-        predict_by::<2, 8, WRAPS, PAIR>(cube, y, x, count, settings, state, other, beside);
+        predict_by::<2, 8, WRAPS, PAIR>(rows, y, x, count, settings, state, other, beside);
     } else if weights <= 12 {
-        predict_by::<3, 12, WRAPS, PAIR>(cube, y, x, count, settings, state, other, beside);
+        predict_by::<3, 12, WRAPS, PAIR>(rows, y, x, count, settings, state, other, beside);
     } else if weights <= 16 {
-        predict_by::<4, 16, WRAPS, PAIR>(cube, y, x, count, settings, state, other, beside);
+        predict_by::<4, 16, WRAPS, PAIR>(rows, y, x, count, settings, state, other, beside);
     } else {
         predict_by::<5, MOST_COMPONENTS, WRAPS, PAIR>(
-            cube, y, x, count, settings, state, other, beside,
+            rows, y, x, count, settings, state, other, beside,
         );
     }
 }
@@ -86,7 +88,7 @@ fn predict_in<const WRAPS: bool, const PAIR: bool>(
 /// What depends on the samples alone is computed first, for all places at once; then the predicted differences,
 /// one after another; and then all residuals at once.
 fn predict_by<const Q: usize, const N: usize, const WRAPS: bool, const PAIR: bool>(
-    cube: &Cube,
+    rows: &Rows,
     y: u32,
     x: u32,
     count: usize,
@@ -95,15 +97,16 @@ fn predict_by<const Q: usize, const N: usize, const WRAPS: bool, const PAIR: boo
     other: &Settings,
     beside: &mut RunState,
 )
+    requires row { rows.now.y ≡ y }
     requires few { N ≤ 18 }
     requires enough { settings.now.count ≤ N }
     requires quads { Q ≡ quads_of settings.now.count }
     requires register { WRAPS ≡ false → 46 ≤ settings.now.predictor.register }
-    requires run { CanPredict settings.now cube.now y x count state.old.weights }
-    requires other { CanPredict other.now cube.now y x count beside.old.weights }
+    requires run { CanPredict settings.now rows.now.image y x count state.old.weights }
+    requires other { CanPredict other.now rows.now.image y x count beside.old.weights }
     requires alike { (other.now.predictor ≡ settings.now.predictor) × (other.now.count ≡ settings.now.count) }
-    ensures predicted { HasPredicted settings.now cube.now y x count state.old.weights state.new.weights state.new.residuals }
-    ensures other_predicted { PAIR ≡ true → HasPredicted other.now cube.now y x count beside.old.weights beside.new.weights beside.new.residuals }
+    ensures predicted { HasPredicted settings.now rows.now.image y x count state.old.weights state.new.weights state.new.residuals }
+    ensures other_predicted { PAIR ≡ true → HasPredicted other.now rows.now.image y x count beside.old.weights beside.new.weights beside.new.residuals }
 {
     let first = first_later(y, x);
     let none = Quad {
@@ -112,7 +115,7 @@ fn predict_by<const Q: usize, const N: usize, const WRAPS: bool, const PAIR: boo
     let mut sums = [0; 64];
     let mut own = [0; 64];
     let mut quads = [none; Q];
-    fill_run::<Q>(settings, cube, y, x, count, &mut sums, &mut own, &mut quads);
+    fill_run::<Q>(settings, rows, y, x, count, &mut sums, &mut own, &mut quads);
     let run = KnownRun {
         settings,
         sums: &sums,
@@ -123,19 +126,19 @@ fn predict_by<const Q: usize, const N: usize, const WRAPS: bool, const PAIR: boo
         let mut sums = [0; 64];
         let mut own = [0; 64];
         let mut quads = [none; Q];
-        fill_run::<Q>(other, cube, y, x, count, &mut sums, &mut own, &mut quads);
+        fill_run::<Q>(other, rows, y, x, count, &mut sums, &mut own, &mut quads);
         let next = KnownRun {
             settings: other,
             sums: &sums,
             own: &own,
             quads: &quads,
         };
-        follow_run::<Q, N, WRAPS, PAIR>(cube, y, x, first, count, run, state, next, beside);
-        write_residuals::<Q>(cube, y, x, first, count, run, state);
-        write_residuals::<Q>(cube, y, x, first, count, next, beside);
+        follow_run::<Q, N, WRAPS, PAIR>(rows, y, x, first, count, run, state, next, beside);
+        write_residuals::<Q>(rows, y, x, first, count, run, state);
+        write_residuals::<Q>(rows, y, x, first, count, next, beside);
     } else {
-        follow_run::<Q, N, WRAPS, PAIR>(cube, y, x, first, count, run, state, run, beside);
-        write_residuals::<Q>(cube, y, x, first, count, run, state);
+        follow_run::<Q, N, WRAPS, PAIR>(rows, y, x, first, count, run, state, run, beside);
+        write_residuals::<Q>(rows, y, x, first, count, run, state);
     }
 }
 
@@ -143,7 +146,7 @@ fn predict_by<const Q: usize, const N: usize, const WRAPS: bool, const PAIR: boo
 /// are predicted.
 #[inline(always)]
 fn write_residuals<const Q: usize>(
-    cube: &Cube,
+    rows: &Rows,
     y: u32,
     x: u32,
     first: usize,
@@ -151,28 +154,29 @@ fn write_residuals<const Q: usize>(
     run: KnownRun<Q>,
     state: &mut RunState,
 )
-    requires room { IsRoom run.settings.now.predictor cube.now run.settings.now.band y x count run.settings.now.count run.sums.now
+    requires row { rows.now.y ≡ y }
+    requires room { IsRoom run.settings.now.predictor rows.now.image run.settings.now.band y x count run.settings.now.count run.sums.now
         run.own.now run.quads.now }
-    requires place { IsPlace cube.now.shape run.settings.now.band y x }
-    requires kind { cube.now.kind ≡ run.settings.now.range.kind }
+    requires place { IsPlace rows.now.image.shape run.settings.now.band y x }
+    requires kind { rows.now.image.kind ≡ run.settings.now.range.kind }
     requires some { 1 ≤ count }
     requires few { count ≤ 64 }
-    requires inside { x + count ≤ cube.now.shape.columns }
+    requires inside { x + count ≤ rows.now.image.shape.columns }
     requires first { IsFirstLater y x first }
     requires parts_in { (i : ℕ) → first ≤ i → i < count → unsigned_abs (slice_index_or state.old.parts i (pos 0)) ≤ 18 * 2 ^ 20 }
-    ensures bound { (i : ℕ) → i < count → slice_index_or state.new.residuals i 0 < 2 ^ cube.now.kind.bits }
-    ensures residuals { (p : Parameters) (begun ws : List ℤ) → AreWeightsAt p run.entry.settings.now.predictor cube.now run.entry.settings.now.band
-        (y * cube.now.shape.columns + x) (take run.entry.settings.now.count begun)
-        → IsFollowed run.entry.settings.now cube.now y x first begun count ws state.old.parts
-        → take count state.new.residuals ≡ run_residuals p cube.now run.entry.settings.now.band (y * cube.now.shape.columns + x) count }
+    ensures bound { (i : ℕ) → i < count → slice_index_or state.new.residuals i 0 < 2 ^ rows.now.image.kind.bits }
+    ensures residuals { (p : Parameters) (begun ws : List ℤ) → AreWeightsAt p run.entry.settings.now.predictor rows.now.image run.entry.settings.now.band
+        (y * rows.now.image.shape.columns + x) (take run.entry.settings.now.count begun)
+        → IsFollowed run.entry.settings.now rows.now.image y x first begun count ws state.old.parts
+        → take count state.new.residuals ≡ run_residuals p rows.now.image run.entry.settings.now.band (y * rows.now.image.shape.columns + x) count }
     ensures weights { state.new.weights ≡ state.old.weights }
 {
     let mut residuals = [0; 64];
     let room = &mut residuals[..count];
-    map_run(run.settings, cube, y, x, &state.parts, run.sums, room);
+    map_run(run.settings, rows, y, x, &state.parts, run.sums, room);
     state.residuals = residuals;
     if first == 1 {
-        state.residuals[0] = first_residual(run.settings, cube, y, x);
+        state.residuals[0] = first_residual(run.settings, rows, y, x);
     }
 }
 

@@ -7,8 +7,8 @@ ghost use Rattle.std.specs.Prelude.{◌≡◌, ◌+◌, ◌-◌, ◌*◌, ◌<�
 ghost use Rattle.sample_prediction.specs.Lines.{bordered, bordered_above, line_sum, AreLines, AreBandLines};
 ghost use Rattle.cube_core.specs.Image.{IsPlace};
 
-use cube_core::cube::Cube;
 use sample_prediction::predictor::Predictor;
+use sample_prediction::rows::Rows;
 
 /// The offsets of a run in its own row, `current`, and in the row `above` it, each with one place more on each side.
 #[derive(Clone, Copy)]
@@ -33,22 +33,23 @@ impl Lines {
 /// Writes the lines of `count` places of band `z` from row `y`, column `x` on.
 pub(crate) fn fill_band_lines(
     predictor: &Predictor,
-    cube: &Cube,
+    rows: &Rows,
     z: u32,
     y: u32,
     x: u32,
     count: usize,
     lines: &mut Lines,
 )
-    requires place { IsPlace cube.now.shape z y x }
+    requires row { rows.now.y ≡ y }
+    requires place { IsPlace rows.now.image.shape z y x }
     requires some { 1 ≤ count }
     requires few { count ≤ 64 }
-    requires inside { x + count ≤ cube.now.shape.columns }
-    requires wide { predictor.now.column ≡ false → 2 ≤ cube.now.shape.columns }
-    ensures { AreBandLines predictor.now cube.now z y x count lines.new.current lines.new.above }
+    requires inside { x + count ≤ rows.now.image.shape.columns }
+    requires wide { predictor.now.column ≡ false → 2 ≤ rows.now.image.shape.columns }
+    ensures { AreBandLines predictor.now rows.now.image z y x count lines.new.current lines.new.above }
 {
-    let row = cube.row(z, y);
-    let above = cube.row(z, y.saturating_sub(1));
+    let row = rows.row(z);
+    let above = rows.row_above(z);
     fill_lines(
         predictor.column,
         y,

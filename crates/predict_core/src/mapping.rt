@@ -15,8 +15,8 @@ ghost use Rattle.sample_prediction.specs.Residual.{theta_between, mapped, mapped
 ghost use Rattle.predict_core.specs.Rooms.{offset_number};
 
 use crate::settings::Settings;
-use cube_core::cube::Cube;
 use sample_prediction::residual::prediction_of;
+use sample_prediction::rows::Rows;
 
 /// Writes the mapped residuals of a run of places from row `y`, column `x` on, as many as there is room for.
 ///
@@ -24,32 +24,33 @@ use sample_prediction::residual::prediction_of;
 /// place of a band isn't its residual (CCSDS 123.0-B-1, "Mapped Prediction Residual").
 pub(crate) fn map_run(
     settings: &Settings,
-    cube: &Cube,
+    rows: &Rows,
     y: u32,
     x: u32,
     parts: &[i32; 64],
     sums: &[i32; 64],
     residuals: &mut [u16],
 )
-    requires place { IsPlace cube.now.shape settings.now.band y x }
-    requires kind { cube.now.kind ≡ settings.now.range.kind }
+    requires row { rows.now.y ≡ y }
+    requires place { IsPlace rows.now.image.shape settings.now.band y x }
+    requires kind { rows.now.image.kind ≡ settings.now.range.kind }
     requires few { length residuals.old ≤ 64 }
-    requires inside { x + length residuals.old ≤ cube.now.shape.columns }
+    requires inside { x + length residuals.old ≤ rows.now.image.shape.columns }
     requires parts_in { (i : ℕ) → i < length residuals.old → 0 < y + (x + i) → unsigned_abs (slice_index_or parts.now i (pos 0)) ≤ 18 * 2 ^ 20 }
     requires sum_least { (i : ℕ) → i < length residuals.old → 0 < y + (x + i) → pos 0 ≤ℤ slice_index_or sums.now i (pos 0) }
     requires sum_most { (i : ℕ) → i < length residuals.old → 0 < y + (x + i) → slice_index_or sums.now i (pos 0) ≤ℤ pos 262140 }
-    requires sum { (i : ℕ) → i < length residuals.old → 0 < y + (x + i) → pos 4 *ℤ smin cube.now.kind +ℤ slice_index_or sums.now i (pos 0)
-        ≡ local_sum settings.now.predictor cube.now settings.now.band y (x + i) }
-    ensures bound { (i : ℕ) → i < length residuals.new → slice_index residuals.new i < 2 ^ cube.now.kind.bits }
+    requires sum { (i : ℕ) → i < length residuals.old → 0 < y + (x + i) → pos 4 *ℤ smin rows.now.image.kind +ℤ slice_index_or sums.now i (pos 0)
+        ≡ local_sum settings.now.predictor rows.now.image settings.now.band y (x + i) }
+    ensures bound { (i : ℕ) → i < length residuals.new → slice_index residuals.new i < 2 ^ rows.now.image.kind.bits }
     ensures values { (i : ℕ) → i < length residuals.new → 0 < y + (x + i)
         → slice_index residuals.new i
-        ≡ mapped cube.now.kind (clip (floor_div (slice_index_or parts.now i (pos 0) +ℤ (local_sum settings.now.predictor cube.now settings.now.band y
-        (x + i) -ℤ pos 4 *ℤ smid cube.now.kind)) 2 +ℤ pos 2 *ℤ smid cube.now.kind +ℤ pos 1) (pos 2 *ℤ smin cube.now.kind) (pos 2 *ℤ smax cube.now.kind +ℤ
-        pos 1)) (sample_at cube.now settings.now.band y (x + i)) }
+        ≡ mapped rows.now.image.kind (clip (floor_div (slice_index_or parts.now i (pos 0) +ℤ (local_sum settings.now.predictor rows.now.image settings.now.band y
+        (x + i) -ℤ pos 4 *ℤ smid rows.now.image.kind)) 2 +ℤ pos 2 *ℤ smid rows.now.image.kind +ℤ pos 1) (pos 2 *ℤ smin rows.now.image.kind) (pos 2 *ℤ smax rows.now.image.kind +ℤ
+        pos 1)) (sample_at rows.now.image settings.now.band y (x + i)) }
 {
-    cube.prove_is_cube();
+    rows.prove_is_row();
     let count = residuals.len();
-    let row = cube.row(settings.band, y);
+    let row = rows.row(settings.band);
     let mut offsets = [0u16; 64];
     copy_offsets(row, x as usize, count, &mut offsets);
     let mut numbers = [0u16; 64];

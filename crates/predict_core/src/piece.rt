@@ -7,20 +7,20 @@ use crate::band::Band;
 use crate::chain::RunState;
 use crate::known_run::predict_run;
 use crate::run::LEAST;
-use cube_core::cube::Cube;
+use sample_prediction::rows::Rows;
 
 impl Band {
     /// Advances by `count` places of a row, and holds their mapped residuals until the next piece.
     ///
-    /// `count` is at most 64. The first of these places is the next one, row `y`, column `x`, and all of them
-    /// are in that row. The cube has the shape and kind of the parameters. Each residual is at most 2^D - 1
+    /// `count` is at most 64, and all places are in the row of `rows`. The first of them is the next one, at column
+    /// `x`. The image has the shape and kind of the parameters. Each residual is at most 2^D - 1
     /// (CCSDS 123.0-B-1, "Predictor").
-    pub fn predict_piece(&mut self, cube: &Cube, y: u32, x: u32, count: usize)
-        requires next { IsPieceNext self.old cube.now y x count }
-        ensures held { HoldsPiece cube.now count self.old self.new }
+    pub fn predict_piece(&mut self, rows: &Rows, x: u32, count: usize)
+        requires next { IsPieceNext self.old rows.now.image rows.now.y x count }
+        ensures held { HoldsPiece rows.now.image count self.old self.new }
     {
         let mut piece = [0; 64];
-        self.forward_run(cube, y, x, &mut piece[..count]);
+        self.forward_run(rows, x, &mut piece[..count]);
         self.piece = piece;
     }
 
@@ -31,16 +31,17 @@ impl Band {
     /// No place of one band waits for a place of the other, so the processor works on both at once, in less time than
     /// on one after the other (CCSDS 123.0-B-1, "Predictor"). Short pieces, and bands with different numbers of weights,
     /// are predicted one after the other.
-    pub fn predict_pieces(&mut self, other: &mut Band, cube: &Cube, y: u32, x: u32, count: usize)
-        requires next { IsPieceNext self.old cube.now y x count }
-        requires other_next { IsPieceNext other.old cube.now y x count }
+    pub fn predict_pieces(&mut self, other: &mut Band, rows: &Rows, x: u32, count: usize)
+        requires next { IsPieceNext self.old rows.now.image rows.now.y x count }
+        requires other_next { IsPieceNext other.old rows.now.image rows.now.y x count }
         requires alike { other.old.predictor ≡ self.old.predictor }
-        ensures held { HoldsPiece cube.now count self.old self.new }
-        ensures other_held { HoldsPiece cube.now count other.old other.new }
+        ensures held { HoldsPiece rows.now.image count self.old self.new }
+        ensures other_held { HoldsPiece rows.now.image count other.old other.new }
     {
+        let y = rows.y();
         if count < LEAST || self.settings.count != other.settings.count {
-            self.predict_piece(cube, y, x, count);
-            other.predict_piece(cube, y, x, count);
+            self.predict_piece(rows, x, count);
+            other.predict_piece(rows, x, count);
             return;
         }
         self.next += count as u64;
@@ -48,7 +49,7 @@ impl Band {
         let (settings, others) = (&self.settings, &other.settings);
         let mut state = RunState::new(self.weights);
         let mut beside = RunState::new(other.weights);
-        predict_run::<true>(cube, y, x, count, settings, &mut state, others, &mut beside);
+        predict_run::<true>(rows, y, x, count, settings, &mut state, others, &mut beside);
         self.weights = state.weights;
         self.piece = state.residuals;
         other.weights = beside.weights;

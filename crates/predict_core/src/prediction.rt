@@ -11,11 +11,11 @@ ghost use Rattle.sample_prediction.specs.Bounds.{AllWithin};
 ghost use Rattle.predict_core.specs.Steps.{AreSteps};
 
 use crate::settings::Settings;
-use cube_core::cube::Cube;
 use sample_prediction::differences::{fill_differences, sum_at};
 use sample_prediction::exponent::exponent_at;
 use sample_prediction::prediction::scaled_by;
 use sample_prediction::predictor::MOST_COMPONENTS;
+use sample_prediction::rows::Rows;
 use sample_prediction::weights::{StepShift, step_shift, update};
 
 /// The prediction at a place, and the differences that it comes from.
@@ -25,19 +25,20 @@ pub(crate) struct Prediction {
     pub differences: [i32; MOST_COMPONENTS],
 }
 
-/// Returns the scaled prediction at the first place of a band.
-pub(crate) fn first_scaled(settings: &Settings, cube: &Cube) -> i32
-    requires place { IsPlace cube.now.shape settings.now.band 0 0 }
-    requires kind { cube.now.kind ≡ settings.now.range.kind }
-    ensures value { result ≡ first_prediction settings.now.predictor cube.now settings.now.band }
-    ensures scaled { IsScaled cube.now.kind result }
+/// Returns the scaled prediction at the first place of a band; the rows are the first one alone.
+pub(crate) fn first_scaled(settings: &Settings, rows: &Rows) -> i32
+    requires first { rows.now.y ≡ 0 }
+    requires place { IsPlace rows.now.image.shape settings.now.band 0 0 }
+    requires kind { rows.now.image.kind ≡ settings.now.range.kind }
+    ensures value { result ≡ first_prediction settings.now.predictor rows.now.image settings.now.band }
+    ensures scaled { IsScaled rows.now.image.kind result }
 {
     let previous = settings.predictor.previous;
     let band = settings.band;
     if previous == 0 || band == 0 {
         2 * settings.range.smid
     } else {
-        2 * cube.sample(band - 1, 0, 0)
+        2 * rows.sample(band - 1, 0)
     }
 }
 
@@ -45,31 +46,32 @@ pub(crate) fn first_scaled(settings: &Settings, cube: &Cube) -> i32
 #[inline(always)]
 pub(crate) fn predict(
     settings: &Settings,
-    cube: &Cube,
+    rows: &Rows,
     y: u32,
     x: u32,
     weights: &[i32; MOST_COMPONENTS],
 ) -> Prediction
-    requires place { IsPlace cube.now.shape settings.now.band y x }
-    requires columns { cube.now.shape.columns ≡ settings.now.columns }
-    requires kind { cube.now.kind ≡ settings.now.range.kind }
+    requires row { rows.now.y ≡ y }
+    requires place { IsPlace rows.now.image.shape settings.now.band y x }
+    requires columns { rows.now.image.shape.columns ≡ settings.now.columns }
+    requires kind { rows.now.image.kind ≡ settings.now.range.kind }
     requires later { 0 < y + x }
     requires weights_in { AllWithin (2 ^ (settings.now.predictor.omega + 2)) weights.now }
-    ensures differences { result.differences ≡ vector settings.now.predictor cube.now settings.now.band y x ++ replicate
+    ensures differences { result.differences ≡ vector settings.now.predictor rows.now.image settings.now.band y x ++ replicate
         (18 - component_count settings.now.predictor settings.now.band) (pos 0) }
     ensures bound { AllWithin (4 * 2 ^ settings.now.range.bits) result.differences }
-    ensures value { result.scaled ≡ scaled_there settings.now.predictor cube.now settings.now.band y x
+    ensures value { result.scaled ≡ scaled_there settings.now.predictor rows.now.image settings.now.band y x
         (take (component_count settings.now.predictor settings.now.band) weights.now) }
-    ensures scaled { IsScaled cube.now.kind result.scaled }
+    ensures scaled { IsScaled rows.now.image.kind result.scaled }
 {
-    cube.prove_is_cube();
+    rows.prove_is_row();
     let predictor = &settings.predictor;
     let range = &settings.range;
-    let sum = sum_at(predictor, cube, settings.band, y, x);
+    let sum = sum_at(predictor, rows, settings.band, y, x);
     let mut differences = [0i32; MOST_COMPONENTS];
     fill_differences(
         predictor,
-        cube,
+        rows,
         settings.band,
         y,
         x,

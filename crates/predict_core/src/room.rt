@@ -14,6 +14,7 @@ use crate::fills::{fill_directions, fill_four, fill_open_directions, fill_open_s
 use crate::lines::{Lines, fill_band_lines, fill_line_above, is_column};
 use crate::settings::Settings;
 use cube_core::cube::Cube;
+use sample_prediction::rows::Rows;
 
 /// Four components at each place of a run.
 #[derive(Clone, Copy)]
@@ -28,7 +29,7 @@ pub(crate) struct Quad {
 /// the first place of a band nothing useful is written (CCSDS 123.0-B-1, "Local Sums", "Local Differences").
 pub(crate) fn fill_run<const Q: usize>(
     settings: &Settings,
-    cube: &Cube,
+    rows: &Rows,
     y: u32,
     x: u32,
     count: usize,
@@ -36,19 +37,20 @@ pub(crate) fn fill_run<const Q: usize>(
     own: &mut [i32; 64],
     quads: &mut [Quad; Q],
 )
-    requires place { IsPlace cube.now.shape settings.now.band y x }
-    requires columns { cube.now.shape.columns ≡ settings.now.columns }
+    requires row { rows.now.y ≡ y }
+    requires place { IsPlace rows.now.image.shape settings.now.band y x }
+    requires columns { rows.now.image.shape.columns ≡ settings.now.columns }
     requires some { 1 ≤ count }
     requires few { count ≤ 64 }
-    requires inside { x + count ≤ cube.now.shape.columns }
+    requires inside { x + count ≤ rows.now.image.shape.columns }
     requires enough { quads_of settings.now.count ≤ Q }
-    ensures { IsRoom settings.now.predictor cube.now settings.now.band y x count settings.now.count sums.new own.new quads.new }
+    ensures { IsRoom settings.now.predictor rows.now.image settings.now.band y x count settings.now.count sums.new own.new quads.new }
 {
-    cube.prove_is_cube();
+    rows.prove_is_row();
     let mut lines = Lines::empty();
     fill_band_lines(
         &settings.predictor,
-        cube,
+        rows,
         settings.band,
         y,
         x,
@@ -58,11 +60,11 @@ pub(crate) fn fill_run<const Q: usize>(
     if settings.predictor.reduced {
         let column = is_column(settings.predictor.column, y);
         fill_own(column, &lines, sums, own);
-        fill_spectral::<Q>(settings, cube, y, x, count, 0, 1, quads);
+        fill_spectral::<Q>(settings, rows, y, x, count, 0, 1, quads);
     } else {
         let first = &mut quads[0];
-        fill_first(settings, cube, y, x, count, &lines, sums, own, first);
-        fill_spectral::<Q>(settings, cube, y, x, count, 1, 2, quads);
+        fill_first(settings, rows, y, x, count, &lines, sums, own, first);
+        fill_spectral::<Q>(settings, rows, y, x, count, 1, 2, quads);
     }
 }
 
@@ -91,20 +93,21 @@ pub(crate) fn fill_open_part<const Q: usize>(
 {
     let column = settings.predictor.column;
     let mut line = [0u16; 66];
-    let above = cube.row(settings.band, y - 1);
+    let rows = Rows::of(cube, y);
+    let above = rows.row_above(settings.band);
     fill_line_above(column, above, x as usize, count, &mut line);
     if settings.predictor.reduced {
         fill_open_sums(column, &line, sums);
-        fill_spectral::<Q>(settings, cube, y, x, count, 0, 1, quads);
+        fill_spectral::<Q>(settings, &rows, y, x, count, 0, 1, quads);
     } else {
         let mut below = Lines::empty();
-        fill_below(settings, cube, y, x, count, 1, &mut below);
+        fill_below(settings, &rows, y, x, count, 1, &mut below);
         let first = &mut quads[0].places;
         fill_open_directions(column, &line, &below, sums, first);
         if x == 0 {
             put_north_first(first);
         }
-        fill_spectral::<Q>(settings, cube, y, x, count, 1, 2, quads);
+        fill_spectral::<Q>(settings, &rows, y, x, count, 1, 2, quads);
     }
 }
 
@@ -122,7 +125,7 @@ fn put_north_first(out: &mut [[i32; 4]; 64])
 /// band below.
 fn fill_first(
     settings: &Settings,
-    cube: &Cube,
+    rows: &Rows,
     y: u32,
     x: u32,
     count: usize,
@@ -131,21 +134,22 @@ fn fill_first(
     own: &mut [i32; 64],
     quad: &mut Quad,
 )
-    requires place { IsPlace cube.now.shape settings.now.band y x }
-    requires columns { cube.now.shape.columns ≡ settings.now.columns }
+    requires row { rows.now.y ≡ y }
+    requires place { IsPlace rows.now.image.shape settings.now.band y x }
+    requires columns { rows.now.image.shape.columns ≡ settings.now.columns }
     requires some { 1 ≤ count }
     requires few { count ≤ 64 }
-    requires inside { x + count ≤ cube.now.shape.columns }
-    requires lines { AreBandLines settings.now.predictor cube.now settings.now.band y x count lines.now.current lines.now.above }
+    requires inside { x + count ≤ rows.now.image.shape.columns }
+    requires lines { AreBandLines settings.now.predictor rows.now.image settings.now.band y x count lines.now.current lines.now.above }
     ensures sums { (i : ℕ) → i < 64
         → slice_index_or sums.new i (pos 0) ≡ pos (line_sum (settings.now.predictor.column || y == 0) lines.now.current lines.now.above i) }
     ensures own { (i : ℕ) → i < 64 → slice_index_or own.new i (pos 0) ≡ line_difference (settings.now.predictor.column || y == 0) lines.now.current
         lines.now.above i }
-    ensures quad { (i : ℕ) → i < count → 0 < y + (x + i) → slice_index_or quad.new.places i [] ≡ directional_differences settings.now.predictor cube.now
-        settings.now.band y (x + i) ++ lower_differences settings.now.predictor cube.now settings.now.band y (x + i) 1 1 }
+    ensures quad { (i : ℕ) → i < count → 0 < y + (x + i) → slice_index_or quad.new.places i [] ≡ directional_differences settings.now.predictor rows.now.image
+        settings.now.band y (x + i) ++ lower_differences settings.now.predictor rows.now.image settings.now.band y (x + i) 1 1 }
 {
     let mut below = Lines::empty();
-    fill_below(settings, cube, y, x, count, 1, &mut below);
+    fill_below(settings, rows, y, x, count, 1, &mut below);
     if y == 0 {
         let none = Lines::empty();
         fill_own(true, lines, sums, own);

@@ -9,7 +9,7 @@ ghost use Rattle.predict_core.specs.Following.{Follows, MovesBy};
 use crate::band::Band;
 use crate::chain::RunState;
 use crate::known_run::predict_run;
-use cube_core::cube::Cube;
+use sample_prediction::rows::Rows;
 
 /// The least run that is computed in arrays of 64 places. For a shorter run they cost more than its places do.
 pub(crate) const LEAST: usize = 9;
@@ -18,27 +18,28 @@ impl Band {
     /// Writes the mapped residuals of a run, as many as `residuals` has elements, and advances by as many
     /// places.
     ///
-    /// A run has at most 64 places. Its first place is the next one, row `y`, column `x`, and all of them are
-    /// in that row. The cube has the shape and kind of the parameters. Each residual is at most 2^D - 1
+    /// A run has at most 64 places, all in the row of `rows`. Its first place is the next one, at column `x`. The
+    /// image has the shape and kind of the parameters. Each residual is at most 2^D - 1
     /// (CCSDS 123.0-B-1, "Predictor"). The band holds its last piece as before.
-    pub fn forward_run(&mut self, cube: &Cube, y: u32, x: u32, residuals: &mut [u16])
-        requires shape { cube.now.shape ≡ self.old.shape }
-        requires kind { cube.now.kind ≡ self.old.kind }
-        requires place { IsPlace cube.now.shape self.old.band y x }
+    pub fn forward_run(&mut self, rows: &Rows, x: u32, residuals: &mut [u16])
+        requires shape { rows.now.image.shape ≡ self.old.shape }
+        requires kind { rows.now.image.kind ≡ self.old.kind }
+        requires place { IsPlace rows.now.image.shape self.old.band rows.now.y x }
         requires few { length residuals.old ≤ 64 }
-        requires inside { x + length residuals.old ≤ cube.now.shape.columns }
-        requires next { self.old.t ≡ y * cube.now.shape.columns + x }
+        requires inside { x + length residuals.old ≤ rows.now.image.shape.columns }
+        requires next { self.old.t ≡ rows.now.y * rows.now.image.shape.columns + x }
         ensures moved { MovesBy (length residuals.old) self.old self.new }
         ensures held { self.new.piece ≡ self.old.piece }
-        ensures bound { (i : ℕ) → i < length residuals.new → slice_index residuals.new i < 2 ^ cube.now.kind.bits }
-        ensures residuals { (p : Parameters) → Follows p self.old cube.now
-            → residuals.new ≡ run_residuals p cube.now self.old.band self.old.t (length residuals.old) }
-        ensures follows { (p : Parameters) → Follows p self.old cube.now → Follows p self.new cube.now }
+        ensures bound { (i : ℕ) → i < length residuals.new → slice_index residuals.new i < 2 ^ rows.now.image.kind.bits }
+        ensures residuals { (p : Parameters) → Follows p self.old rows.now.image
+            → residuals.new ≡ run_residuals p rows.now.image self.old.band self.old.t (length residuals.old) }
+        ensures follows { (p : Parameters) → Follows p self.old rows.now.image → Follows p self.new rows.now.image }
     {
-        cube.prove_is_cube();
+        let y = rows.y();
+        rows.prove_is_row();
         let count = residuals.len();
         if count < LEAST {
-            self.forward_each(cube, y, x, residuals);
+            self.forward_each(rows, y, x, residuals);
             return;
         }
         self.next += count as u64;
@@ -46,29 +47,30 @@ impl Band {
         let mut state = RunState::new(self.weights);
         // There is one band: the state of a second one is unused.
         let mut none = RunState::new(self.weights);
-        predict_run::<false>(cube, y, x, count, settings, &mut state, settings, &mut none);
+        predict_run::<false>(rows, y, x, count, settings, &mut state, settings, &mut none);
         self.weights = state.weights;
         residuals.copy_from_slice(&state.residuals[..count]);
     }
 
     /// `forward_run`, one place after another.
-    fn forward_each(&mut self, cube: &Cube, y: u32, x: u32, residuals: &mut [u16])
-        requires shape { cube.now.shape ≡ self.old.shape }
-        requires kind { cube.now.kind ≡ self.old.kind }
-        requires place { IsPlace cube.now.shape self.old.band y x }
+    fn forward_each(&mut self, rows: &Rows, y: u32, x: u32, residuals: &mut [u16])
+        requires row { rows.now.y ≡ y }
+        requires shape { rows.now.image.shape ≡ self.old.shape }
+        requires kind { rows.now.image.kind ≡ self.old.kind }
+        requires place { IsPlace rows.now.image.shape self.old.band y x }
         requires few { length residuals.old ≤ 64 }
-        requires inside { x + length residuals.old ≤ cube.now.shape.columns }
-        requires next { self.old.t ≡ y * cube.now.shape.columns + x }
+        requires inside { x + length residuals.old ≤ rows.now.image.shape.columns }
+        requires next { self.old.t ≡ y * rows.now.image.shape.columns + x }
         ensures moved { MovesBy (length residuals.old) self.old self.new }
         ensures held { self.new.piece ≡ self.old.piece }
-        ensures bound { (i : ℕ) → i < length residuals.new → slice_index residuals.new i < 2 ^ cube.now.kind.bits }
-        ensures residuals { (p : Parameters) → Follows p self.old cube.now
-            → residuals.new ≡ run_residuals p cube.now self.old.band self.old.t (length residuals.old) }
-        ensures follows { (p : Parameters) → Follows p self.old cube.now → Follows p self.new cube.now }
+        ensures bound { (i : ℕ) → i < length residuals.new → slice_index residuals.new i < 2 ^ rows.now.image.kind.bits }
+        ensures residuals { (p : Parameters) → Follows p self.old rows.now.image
+            → residuals.new ≡ run_residuals p rows.now.image self.old.band self.old.t (length residuals.old) }
+        ensures follows { (p : Parameters) → Follows p self.old rows.now.image → Follows p self.new rows.now.image }
     {
-        cube.prove_is_cube();
+        rows.prove_is_row();
         for i in 0..residuals.len() {
-            residuals[i] = self.forward(cube, y, x + i as u32);
+            residuals[i] = self.forward_in(rows, y, x + i as u32);
         }
     }
 }

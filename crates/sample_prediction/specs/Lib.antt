@@ -13,3 +13,4 @@ pub mod Residual
 pub mod Weights
 pub mod Examples
 pub mod Unfold
+pub mod Rows

@@ -12,7 +12,7 @@ ghost use Rattle.sample_prediction.specs.Bounds.{AllWithin, IsPredictor};
 
 use crate::neighbourhood::{central_of, difference_of, sum_of};
 use crate::predictor::{MOST_COMPONENTS, Predictor};
-use cube_core::cube::Cube;
+use crate::rows::Rows;
 
 /// Writes all differences at a place that is not the first of its band into an array of zeros, in full mode the
 /// directional ones first.
@@ -22,7 +22,7 @@ use cube_core::cube::Cube;
 #[inline(always)]
 pub fn fill_differences(
     predictor: &Predictor,
-    cube: &Cube,
+    rows: &Rows,
     z: u32,
     y: u32,
     x: u32,
@@ -30,51 +30,54 @@ pub fn fill_differences(
     near: usize,
     out: &mut [i32; MOST_COMPONENTS],
 )
+    requires row { rows.now.y ≡ y }
     requires lawful { IsPredictor predictor.now }
-    requires place { IsPlace cube.now.shape z y x }
+    requires place { IsPlace rows.now.image.shape z y x }
     requires later { 0 < y + x }
-    requires wide { predictor.now.column ≡ false → 2 ≤ cube.now.shape.columns }
-    requires sum_is { local_sum predictor.now cube.now z y x ≡ pos 4 *ℤ smin cube.now.kind +ℤ pos sum }
+    requires wide { predictor.now.column ≡ false → 2 ≤ rows.now.image.shape.columns }
+    requires sum_is { local_sum predictor.now rows.now.image z y x ≡ pos 4 *ℤ smin rows.now.image.kind +ℤ pos sum }
     requires sum_in { sum ≤ 262140 }
     requires near_is { near ≡ previous_bands predictor.now z }
     requires clear { out.old ≡ replicate 18 (pos 0) }
-    ensures value { out.new ≡ vector predictor.now cube.now z y x ++ replicate (18 - component_count predictor.now z) (pos 0) }
+    ensures value { out.new ≡ vector predictor.now rows.now.image z y x ++ replicate (18 - component_count predictor.now z) (pos 0) }
     ensures bound { AllWithin 262144 out.new }
 {
     if predictor.reduced {
-        fill_spectral(predictor, cube, z, y, x, 0, near, out);
+        fill_spectral(predictor, rows, z, y, x, 0, near, out);
     } else {
-        fill_directional(predictor, cube, z, y, x, sum, out);
-        fill_spectral(predictor, cube, z, y, x, 3, near, out);
+        fill_directional(predictor, rows, z, y, x, sum, out);
+        fill_spectral(predictor, rows, z, y, x, 3, near, out);
     }
 }
 
 /// Returns the local sum of the offsets at a place that is not the first of its band.
 #[inline(always)]
-pub fn sum_at(predictor: &Predictor, cube: &Cube, z: u32, y: u32, x: u32) -> u32
-    requires place { IsPlace cube.now.shape z y x }
+pub fn sum_at(predictor: &Predictor, rows: &Rows, z: u32, y: u32, x: u32) -> u32
+    requires row { rows.now.y ≡ y }
+    requires place { IsPlace rows.now.image.shape z y x }
     requires later { 0 < y + x }
-    requires wide { predictor.now.column ≡ false → 2 ≤ cube.now.shape.columns }
-    ensures value { local_sum predictor.now cube.now z y x ≡ pos 4 *ℤ smin cube.now.kind +ℤ pos result }
+    requires wide { predictor.now.column ≡ false → 2 ≤ rows.now.image.shape.columns }
+    ensures value { local_sum predictor.now rows.now.image z y x ≡ pos 4 *ℤ smin rows.now.image.kind +ℤ pos result }
     ensures bound { result ≤ 262140 }
 {
-    let row = cube.row(z, y);
-    let above = cube.row(z, y.saturating_sub(1));
+    let row = rows.row(z);
+    let above = rows.row_above(z);
     sum_of(predictor.column, y, row, above, x as usize)
 }
 
 /// Returns the offset of the sample to the west of a place below the first row; in the first column, of the one
 /// to the north.
 #[inline(always)]
-pub fn west_of(cube: &Cube, z: u32, y: u32, x: u32) -> u16
-    requires place { IsPlace cube.now.shape z y x }
+pub fn west_of(rows: &Rows, z: u32, y: u32, x: u32) -> u16
+    requires row { rows.now.y ≡ y }
+    requires place { IsPlace rows.now.image.shape z y x }
     requires later { 0 < y }
-    ensures { IsWest cube.now z y x result }
+    ensures { IsWest rows.now.image z y x result }
 {
     if x == 0 {
-        cube.row(z, y - 1)[0]
+        rows.row_above(z)[0]
     } else {
-        cube.row(z, y)[x as usize - 1]
+        rows.row(z)[x as usize - 1]
     }
 }
 
@@ -82,32 +85,33 @@ pub fn west_of(cube: &Cube, z: u32, y: u32, x: u32) -> u16
 #[inline(always)]
 fn fill_directional(
     predictor: &Predictor,
-    cube: &Cube,
+    rows: &Rows,
     z: u32,
     y: u32,
     x: u32,
     sum: u32,
     out: &mut [i32; MOST_COMPONENTS],
 )
-    requires place { IsPlace cube.now.shape z y x }
-    requires sum_is { local_sum predictor.now cube.now z y x ≡ pos 4 *ℤ smin cube.now.kind +ℤ pos sum }
+    requires row { rows.now.y ≡ y }
+    requires place { IsPlace rows.now.image.shape z y x }
+    requires sum_is { local_sum predictor.now rows.now.image z y x ≡ pos 4 *ℤ smin rows.now.image.kind +ℤ pos sum }
     requires sum_in { sum ≤ 262140 }
     requires clear { out.old ≡ replicate 18 (pos 0) }
-    ensures value { out.new ≡ directional_differences predictor.now cube.now z y x ++ replicate 15 (pos 0) }
+    ensures value { out.new ≡ directional_differences predictor.now rows.now.image z y x ++ replicate 15 (pos 0) }
     ensures bound { AllWithin 262144 out.new }
 {
     if y == 0 {
         return;
     }
-    let west = west_of(cube, z, y, x);
-    put_neighbours(predictor, cube, z, y, x, sum, west, out);
+    let west = west_of(rows, z, y, x);
+    put_neighbours(predictor, rows, z, y, x, sum, west, out);
 }
 
 /// Writes the directional differences below the first row to the front of an array.
 #[inline(always)]
 fn put_neighbours(
     predictor: &Predictor,
-    cube: &Cube,
+    rows: &Rows,
     z: u32,
     y: u32,
     x: u32,
@@ -115,16 +119,17 @@ fn put_neighbours(
     west: u16,
     out: &mut [i32; MOST_COMPONENTS],
 )
-    requires place { IsPlace cube.now.shape z y x }
+    requires row { rows.now.y ≡ y }
+    requires place { IsPlace rows.now.image.shape z y x }
     requires later { 0 < y }
-    requires sum_is { local_sum predictor.now cube.now z y x ≡ pos 4 *ℤ smin cube.now.kind +ℤ pos sum }
+    requires sum_is { local_sum predictor.now rows.now.image z y x ≡ pos 4 *ℤ smin rows.now.image.kind +ℤ pos sum }
     requires sum_in { sum ≤ 262140 }
-    requires west { IsWest cube.now z y x west }
-    ensures value { out.new ≡ directional_differences predictor.now cube.now z y x ++ drop 3 out.old }
+    requires west { IsWest rows.now.image z y x west }
+    ensures value { out.new ≡ directional_differences predictor.now rows.now.image z y x ++ drop 3 out.old }
     ensures bound { AllWithin 262144 out.old → AllWithin 262144 out.new }
 {
     let x = x as usize;
-    let above = cube.row(z, y.saturating_sub(1));
+    let above = rows.row_above(z);
     let north = difference_of(above[x], sum);
     let west = difference_of(west, sum);
     // In the first column all three are of the sample to the north.
@@ -150,7 +155,7 @@ fn put_directions(north: i32, west: i32, north_west: i32, out: &mut [i32; MOST_C
 #[inline(always)]
 pub fn fill_spectral(
     predictor: &Predictor,
-    cube: &Cube,
+    rows: &Rows,
     z: u32,
     y: u32,
     x: u32,
@@ -158,31 +163,33 @@ pub fn fill_spectral(
     count: usize,
     out: &mut [i32; MOST_COMPONENTS],
 )
-    requires place { IsPlace cube.now.shape z y x }
+    requires row { rows.now.y ≡ y }
+    requires place { IsPlace rows.now.image.shape z y x }
     requires later { 0 < y + x }
-    requires wide { predictor.now.column ≡ false → 2 ≤ cube.now.shape.columns }
+    requires wide { predictor.now.column ≡ false → 2 ≤ rows.now.image.shape.columns }
     requires bands { count ≤ z }
     requires room { first + count ≤ 18 }
     requires clear { drop first out.old ≡ replicate (18 - first) (pos 0) }
     requires small { AllWithin 262144 out.old }
-    ensures value { out.new ≡ take first out.old ++ spectral_differences predictor.now cube.now z y x count ++ replicate (18 - first - count) (pos 0) }
+    ensures value { out.new ≡ take first out.old ++ spectral_differences predictor.now rows.now.image z y x count ++ replicate (18 - first - count) (pos 0) }
     ensures bound { AllWithin 262144 out.new }
 {
     for i in 0..count {
-        out[first + i] = central(predictor, cube, z - 1 - i as u32, y, x);
+        out[first + i] = central(predictor, rows, z - 1 - i as u32, y, x);
     }
 }
 
 /// Returns the central difference of band `z` at a place that is not the first.
 #[inline(always)]
-fn central(predictor: &Predictor, cube: &Cube, z: u32, y: u32, x: u32) -> i32
-    requires place { IsPlace cube.now.shape z y x }
+fn central(predictor: &Predictor, rows: &Rows, z: u32, y: u32, x: u32) -> i32
+    requires row { rows.now.y ≡ y }
+    requires place { IsPlace rows.now.image.shape z y x }
     requires later { 0 < y + x }
-    requires wide { predictor.now.column ≡ false → 2 ≤ cube.now.shape.columns }
-    ensures value { result ≡ central_difference predictor.now cube.now z y x }
+    requires wide { predictor.now.column ≡ false → 2 ≤ rows.now.image.shape.columns }
+    ensures value { result ≡ central_difference predictor.now rows.now.image z y x }
     ensures bound { unsigned_abs result ≤ 262144 }
 {
-    let row = cube.row(z, y);
-    let above = cube.row(z, y.saturating_sub(1));
+    let row = rows.row(z);
+    let above = rows.row_above(z);
     central_of(predictor.column, y, row, above, x as usize)
 }

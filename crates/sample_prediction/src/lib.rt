@@ -11,6 +11,7 @@ pub mod prediction;
 pub mod predictor;
 pub mod register;
 pub mod residual;
+pub mod rows;
 pub mod sample_limits;
 pub mod start;
 pub mod weights;

@@ -15,7 +15,7 @@ ghost use Rattle.sample_prediction.specs.Residual.{theta_between, mapped, mapped
 ghost use Rattle.predict_core.specs.Rooms.{offset_number};
 
 use crate::settings::Settings;
-use cube_core::cube::Cube;
+use sample_prediction::rows::Rows;
 
 /// Writes the mapped residuals of `count` places of a row, from row `y`, column `x` on.
 ///
@@ -23,7 +23,7 @@ use cube_core::cube::Cube;
 /// place of a band isn't its residual (CCSDS 123.0-B-1, "Mapped Prediction Residual").
 pub(crate) fn map_piece(
     settings: &Settings,
-    cube: &Cube,
+    rows: &Rows,
     y: u32,
     x: u32,
     count: usize,
@@ -31,21 +31,22 @@ pub(crate) fn map_piece(
     sums: &[i16; 64],
     numbers: &mut [u16; 64],
 )
-    requires place { IsPlace cube.now.shape settings.now.band y x }
-    requires kind { cube.now.kind ≡ settings.now.range.kind }
-    requires bits { cube.now.kind.bits ≤ 12 }
+    requires row { rows.now.y ≡ y }
+    requires place { IsPlace rows.now.image.shape settings.now.band y x }
+    requires kind { rows.now.image.kind ≡ settings.now.range.kind }
+    requires bits { rows.now.image.kind.bits ≤ 12 }
     requires few { count ≤ 64 }
-    requires inside { x + count ≤ cube.now.shape.columns }
-    requires sum { (i : ℕ) → i < count → 0 < y + (x + i) → pos 4 *ℤ smin cube.now.kind +ℤ slice_index_or sums.now i (pos 0)
-        ≡ local_sum settings.now.predictor cube.now settings.now.band y (x + i) }
-    ensures bound { (i : ℕ) → i < count → slice_index_or numbers.new i 0 < 2 ^ cube.now.kind.bits }
+    requires inside { x + count ≤ rows.now.image.shape.columns }
+    requires sum { (i : ℕ) → i < count → 0 < y + (x + i) → pos 4 *ℤ smin rows.now.image.kind +ℤ slice_index_or sums.now i (pos 0)
+        ≡ local_sum settings.now.predictor rows.now.image settings.now.band y (x + i) }
+    ensures bound { (i : ℕ) → i < count → slice_index_or numbers.new i 0 < 2 ^ rows.now.image.kind.bits }
     ensures values { (i : ℕ) → i < count → 0 < y + (x + i)
         → slice_index_or numbers.new i 0
-        ≡ mapped cube.now.kind (scaled_by_difference cube.now.kind (slice_index_or parts.now i (pos 0)) (local_sum settings.now.predictor cube.now
-        settings.now.band y (x + i))) (sample_at cube.now settings.now.band y (x + i)) }
+        ≡ mapped rows.now.image.kind (scaled_by_difference rows.now.image.kind (slice_index_or parts.now i (pos 0)) (local_sum settings.now.predictor rows.now.image
+        settings.now.band y (x + i))) (sample_at rows.now.image settings.now.band y (x + i)) }
 {
-    cube.prove_is_cube();
-    let row = cube.row(settings.band, y);
+    rows.prove_is_row();
+    let row = rows.row(settings.band);
     let mut offsets = [0u16; 64];
     copy_offsets(row, x as usize, count, &mut offsets);
     let greatest = settings.range.smax - settings.range.smin;

@@ -20,8 +20,8 @@ use crate::group::steps::follow_piece;
 use crate::group::weights::fill_weights;
 use crate::known_run::first_later;
 use band_lanes::pairs::{MOST_PAIRS, Pairs};
-use cube_core::cube::Cube;
 use lanes::turn::turn_back;
+use sample_prediction::rows::Rows;
 
 /// `follow_piece` with the constants of a band's predictor.
 fn follow_band<const Q: usize>(
@@ -68,25 +68,26 @@ fn follow_band<const Q: usize>(
 /// `first` is the first place that isn't the first of the bands.
 fn predict_lanes<const Q: usize>(
     bands: &[Band],
-    cube: &Cube,
+    rows: &Rows,
     y: u32,
     x: u32,
     first: usize,
     count: usize,
     room: &mut GroupRoom,
 ) -> bool
+    requires row { rows.now.y ≡ y }
     requires pairs { Q ≤ 9 }
     requires few { (1 ≤ length bands.now) × (length bands.now ≤ 8) }
-    requires ready { AreReady Q bands.now cube.now y x count }
+    requires ready { AreReady Q bands.now rows.now.image y x count }
     requires first { IsFirstLater y x first }
     ensures { result ≡ true → (k : ℕ) (b : PredictorState) → slice_get bands.now k ≡ Some b
-        → IsPredicted Q k b cube.now y x first count room.new.bands room.new.weights room.new.parts }
+        → IsPredicted Q k b rows.now.image y x first count room.new.bands room.new.weights room.new.parts }
 {
-    cube.prove_is_cube();
+    rows.prove_is_row();
     if !fill_weights::<Q>(bands, &mut room.weights) {
         return false;
     }
-    fill_lanes(bands, cube, y, x, count, 2 * Q, &mut room.bands);
+    fill_lanes(bands, rows, y, x, count, 2 * Q, &mut room.bands);
     fill_pairs::<Q>(&room.bands, &mut room.scratch, &mut room.pairs);
     fill_own_rows(&room.bands, &mut room.parts, &mut room.own);
     let band = &bands[0];
@@ -108,23 +109,24 @@ fn predict_lanes<const Q: usize>(
 /// Advances each band by a piece whose differences are predicted.
 fn finish_lanes<const Q: usize>(
     bands: &mut [Band],
-    cube: &Cube,
+    rows: &Rows,
     y: u32,
     x: u32,
     first: usize,
     count: usize,
     room: &GroupRoom,
 )
+    requires row { rows.now.y ≡ y }
     requires pairs { Q ≤ 9 }
     requires few { (1 ≤ length bands.old) × (length bands.old ≤ 8) }
-    requires ready { AreReady Q bands.old cube.now y x count }
+    requires ready { AreReady Q bands.old rows.now.image y x count }
     requires first { IsFirstLater y x first }
     requires predicted { (k : ℕ) (b : PredictorState) → slice_get bands.old k ≡ Some b
-        → IsPredicted Q k b cube.now y x first count room.now.bands room.now.weights room.now.parts }
-    ensures { AllZip (HoldsPiece cube.now count) bands.old bands.new }
+        → IsPredicted Q k b rows.now.image y x first count room.now.bands room.now.weights room.now.parts }
+    ensures { AllZip (HoldsPiece rows.now.image count) bands.old bands.new }
 {
     for k in 0..bands.len() {
-        finish_lane::<Q>(bands, k, cube, y, x, first, count, room);
+        finish_lane::<Q>(bands, k, rows, y, x, first, count, room);
     }
 }
 
@@ -132,29 +134,30 @@ fn finish_lanes<const Q: usize>(
 fn finish_lane<const Q: usize>(
     bands: &mut [Band],
     k: usize,
-    cube: &Cube,
+    rows: &Rows,
     y: u32,
     x: u32,
     first: usize,
     count: usize,
     room: &GroupRoom,
 )
+    requires row { rows.now.y ≡ y }
     requires pairs { Q ≤ 9 }
     requires lane { k < 8 }
     requires band { k < length bands.old }
-    requires next { IsPieceNext (slice_index_or bands.old k no_band) cube.now y x count }
+    requires next { IsPieceNext (slice_index_or bands.old k no_band) rows.now.image y x count }
     requires some { 1 ≤ count }
-    requires bits { cube.now.kind.bits ≤ 12 }
+    requires bits { rows.now.image.kind.bits ≤ 12 }
     requires first { IsFirstLater y x first }
     requires enough { length (slice_index_or bands.old k no_band).weights ≤ 2 * Q }
-    requires predicted { IsPredicted Q k (slice_index_or bands.old k no_band) cube.now y x first count room.now.bands room.now.weights room.now.parts }
-    ensures held { HoldsPiece cube.now count (slice_index_or bands.old k no_band) (slice_index_or bands.new k no_band) }
+    requires predicted { IsPredicted Q k (slice_index_or bands.old k no_band) rows.now.image y x first count room.now.bands room.now.weights room.now.parts }
+    ensures held { HoldsPiece rows.now.image count (slice_index_or bands.old k no_band) (slice_index_or bands.new k no_band) }
     ensures others { bands.new ≡ slice_set bands.old k (slice_index_or bands.new k no_band) }
 {
     let band = &mut bands[k];
     finish_band::<Q>(
         band,
-        cube,
+        rows,
         y,
         x,
         first,
@@ -171,22 +174,23 @@ fn finish_lane<const Q: usize>(
 /// `Q` pairs hold the components of each band.
 pub(crate) fn predict_side_by_side<const Q: usize>(
     bands: &mut [Band],
-    cube: &Cube,
+    rows: &Rows,
     y: u32,
     x: u32,
     count: usize,
     room: &mut GroupRoom,
 ) -> bool
+    requires row { rows.now.y ≡ y }
     requires pairs { Q ≤ 9 }
     requires few { (1 ≤ length bands.old) × (length bands.old ≤ 8) }
-    requires ready { AreReady Q bands.old cube.now y x count }
-    ensures held { result ≡ true → AllZip (HoldsPiece cube.now count) bands.old bands.new }
+    requires ready { AreReady Q bands.old rows.now.image y x count }
+    ensures held { result ≡ true → AllZip (HoldsPiece rows.now.image count) bands.old bands.new }
     ensures kept { result ≡ false → bands.new ≡ bands.old }
 {
     let first = first_later(y, x);
-    if !predict_lanes::<Q>(bands, cube, y, x, first, count, room) {
+    if !predict_lanes::<Q>(bands, rows, y, x, first, count, room) {
         return false;
     }
-    finish_lanes::<Q>(bands, cube, y, x, first, count, room);
+    finish_lanes::<Q>(bands, rows, y, x, first, count, room);
     true
 }

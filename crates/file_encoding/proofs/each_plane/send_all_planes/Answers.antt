@@ -22,7 +22,7 @@ loop-y-init g c =
 
 pub loop-y-preserved : goal.loop-y-preserved
 loop-y-preserved g c =
-    let told = c.keep_row.ensures in let was = c.loop-y.invariant in
+    let told = rw c.of-rows.ensures at c.keep_row.ensures in let was = c.loop-y.invariant in
     let y = c.loop-y.y in let columns = c.args.cube.now.shape.columns in
     let plane = c.rows.result * c.columns-columns.result in
     let same : c.columns-columns.result ≡ columns = omega (arith, ap (λ s. s.columns) c.shape-shape.ensures) in

@@ -41,16 +41,16 @@ loop-y-init g c =
     }
 
 pub send_first_row-requires-clause-may : goal.send_first_row-requires-clause-may
-send_first_row-requires-clause-may g c = (step g (goal.at.send_first_row-requires-clause-may g c).In-loop-y).fits
+send_first_row-requires-clause-may g c = rw c.of-rows.ensures ((step g (goal.at.send_first_row-requires-clause-may g c).In-loop-y).fits)
 
 pub returns-then-not-send_first_row-clause-sent : goal.returns-then-not-send_first_row-clause-sent
 returns-then-not-send_first_row-clause-sent g c =
-    (step g (goal.at.returns-then-not-send_first_row-clause-sent g c).In-loop-y).cut _ _ c.if-not-send_first_row.true c.send_first_row.ensures.sent
+    (step g (goal.at.returns-then-not-send_first_row-clause-sent g c).In-loop-y).cut _ _ c.if-not-send_first_row.true (rw c.of-rows.ensures at c.send_first_row.ensures.sent)
 
 pub loop-y-preserved : goal.loop-y-preserved
 loop-y-preserved g c =
     let d = (goal.at.loop-y-preserved g c).In-loop-y in
-    let told = c.send_first_row.ensures in let was = c.loop-y.invariant in
+    let told = rw c.of-rows.ensures at c.send_first_row.ensures in let was = c.loop-y.invariant in
     let y = c.loop-y.y in let columns = c.args.cube.now.shape.columns in
     let plane = c.rows.result * c.columns-columns.result in
     let same : c.columns-columns.result ≡ columns = omega (arith, ap (λ s. s.columns) c.shape-shape.ensures) in

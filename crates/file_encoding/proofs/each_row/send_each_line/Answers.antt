@@ -20,17 +20,17 @@ module _ (g : Over) (c : In-loop-y g) where
       stepped g.met.T.Taker.laws c.loop-y.invariant.sent c.requires.may (upto_rest _ _ _ next) (ap (λ zs. line zs c.loop-y.y) c.loop-y.invariant.same)
 
 pub send_each_row-requires-clause-may : goal.send_each_row-requires-clause-may
-send_each_row-requires-clause-may g c = (step g (goal.at.send_each_row-requires-clause-may g c).In-loop-y).fits
+send_each_row-requires-clause-may g c = rw c.of-rows.ensures ((step g (goal.at.send_each_row-requires-clause-may g c).In-loop-y).fits)
 
 pub returns-then-not-send_each_row : goal.returns-then-not-send_each_row
 returns-then-not-send_each_row g c =
-    (step g (goal.at.returns-then-not-send_each_row g c).In-loop-y).cut _ _ c.if-not-send_each_row.true c.send_each_row.ensures.sent
+    (step g (goal.at.returns-then-not-send_each_row g c).In-loop-y).cut _ _ c.if-not-send_each_row.true (rw c.of-rows.ensures at c.send_each_row.ensures.sent)
 
 pub loop-y-preserved : goal.loop-y-preserved
 loop-y-preserved g c = record {
-  at = c.send_each_row.ensures.at c.if-not-send_each_row.false;
+  at = (rw c.of-rows.ensures at c.send_each_row.ensures.at) c.if-not-send_each_row.false;
   same = c.send_each_row.ensures.same ∙ c.loop-y.invariant.same;
-  sent = (step g (goal.at.loop-y-preserved g c).In-loop-y).more _ _ c.if-not-send_each_row.false c.send_each_row.ensures.sent;
+  sent = (step g (goal.at.loop-y-preserved g c).In-loop-y).more _ _ c.if-not-send_each_row.false (rw c.of-rows.ensures at c.send_each_row.ensures.sent);
 }
 
 pub loop-y-init : goal.loop-y-init

@@ -11,7 +11,7 @@ use Rattle.file_encoding.proofs.each_row.send_each_row.Given.{Over}
 
 module _ (g : Over) (c : After-min-count g) where
   abbrev rows : List ℕ → List ℕ
-  rows zs = flat_map (λ z. row_of c.args.params.now c.args.cube.now (z ∷ []) c.args.y) zs
+  rows zs = flat_map (λ z. row_of c.args.params.now c.args.rows.now.image (z ∷ []) c.args.rows.now.y) zs
 
   step : Steps g.T.Taker.may g.T.Taker.takes c.args.taker.now c.loop-first.taker (rows (bands_of c.args.bands.now))
       (rows (bands_of (take (c.loop-first.first + c.min-count.result - c.loop-first.first) (drop c.loop-first.first c.loop-first.bands))))
@@ -47,5 +47,5 @@ send_next_rows-requires-clause-room g c =
     let few : kept ≤ 14336 / columns = omega (arith, length-take many next) in
     let within : kept * columns ≤ 14336 / columns * columns = mul-le kept columns (14336 / columns) columns few (omega arith) in
     let fits : kept * columns ≤ 14336 = omega (arith, within, div-mul-le_self 14336 columns) in
-    let same : columns ≡ c.args.cube.now.shape.columns = omega (arith, ap (λ s. s.columns) c.shape.ensures) in
+    let same : columns ≡ c.args.rows.now.image.shape.columns = omega (arith, ap (λ s. s.columns) c.shape.ensures) in
     subst (λ n. kept * n ≤ 14336) same fits

@@ -7,9 +7,9 @@ use Rattle.file_encoding.proofs.each_row.send_each_row.Given as goal
 
 abbrev pub invariant-loop-first : goal.invariant-loop-first
 invariant-loop-first g l = record {
-  parted : Parted (IsAt l.params l.cube ((l.y + 1) * l.cube.shape.columns)) l.params l.cube (l.y * l.cube.shape.columns) l.first l.bands l.initial.bands;
+  parted : Parted (IsAt l.params l.rows.image ((l.rows.y + 1) * l.rows.image.shape.columns)) l.params l.rows.image (l.rows.y * l.rows.image.shape.columns) l.first l.bands l.initial.bands;
   sent : g.T.Taker.takes l.initial.taker l.taker true
-      (flat_map (λ z. row_of l.params l.cube (z ∷ []) l.y) (take l.first (bands_of l.initial.bands)));
+      (flat_map (λ z. row_of l.params l.rows.image (z ∷ []) l.rows.y) (take l.first (bands_of l.initial.bands)));
 }
 
 abbrev pub decreases-loop-first : goal.decreases-loop-first

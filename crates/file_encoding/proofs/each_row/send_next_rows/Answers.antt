@@ -13,7 +13,7 @@ use Rattle.file_encoding.proofs.each_row.send_next_rows.Given.{Over}
 -- the first row was sent, and the others are there
 module _ (g : Over) (c : After-send_first_row g) (went : c.send_first_row.result ≡ true) where
   abbrev row : ℕ → List ℕ
-  row z = row_of c.args.params.now c.args.cube.now (z ∷ []) c.args.y
+  row z = row_of c.args.params.now c.args.rows.now.image (z ∷ []) c.args.rows.now.y
 
   abbrev kept : List ℕ
   kept = take ((length c.send_first_row.new.bands - 1) * c.columns-columns.result) c.send_first_row.new.room
@@ -26,7 +26,7 @@ module _ (g : Over) (c : After-send_first_row g) (went : c.send_first_row.result
       let many : length zs ≡ length c.args.bands.now = length-map c.args.bands.now (λ b. b.band) in
       let size : length c.send_first_row.new.bands ≡ length zs =
       sym (length-map c.send_first_row.new.bands (λ b. b.band)) ∙ ap (λ (v : List ℕ). length v) c.send_first_row.ensures.same in
-      let all : columns ≡ 0 + c.args.cube.now.shape.columns = omega (arith, ap (λ s. s.columns) c.shape.ensures) in
+      let all : columns ≡ 0 + c.args.rows.now.image.shape.columns = omega (arith, ap (λ s. s.columns) c.shape.ensures) in
       others_sent g.met.T.Taker.laws row zs (omega (arith, c.requires.some, many)) c.requires.may (rw went at c.send_first_row.ensures.sent)
       (kept_rows row columns (length c.send_first_row.new.bands) c.send_first_row.new.room zs size (λ k lt.
       ap (λ n. row_start columns k n c.send_first_row.new.room) all ∙ c.send_first_row.ensures.kept went k (omega (arith, lt, many))))

@@ -6,9 +6,9 @@ use Rattle.file_encoding.proofs.RowPieces.{pieces_next, pieces_past, same_bands}
 use Rattle.file_encoding.proofs.pieces.predict_pieces.Goals as goal
 use Rattle.file_encoding.proofs.pieces.predict_pieces.Goals.{After-min-last}
 
-next : (c : After-min-last) → AreAt c.args.params.now c.args.cube.now (c.args.y * c.args.cube.now.shape.columns + c.args.x)
+next : (c : After-min-last) → AreAt c.args.params.now c.args.rows.now.image (c.args.rows.now.y * c.args.rows.now.image.shape.columns + c.args.x)
     (take (c.min-last.result - c.loop-first.first) (drop c.loop-first.first c.loop-first.bands))
-next c = all_take (IsAt c.args.params.now c.args.cube.now _) _ _ c.loop-first.invariant.left
+next c = all_take (IsAt c.args.params.now c.args.rows.now.image _) _ _ c.loop-first.invariant.left
 
 pub predict_group-requires-clause-next : goal.predict_group-requires-clause-next
 predict_group-requires-clause-next c =
@@ -20,4 +20,4 @@ loop-first-preserved c =
     let told = c.predict_group.ensures.held in
     let past = pieces_past _ _ _ _ _ _ (next (goal.at.loop-first-preserved c).After-min-last) told in
     parted_put (c.min-last.result - c.loop-first.first) c.min-last.result _ c.loop-first.invariant (omega arith) (omega arith) past
-    (same_bands c.args.cube.now c.args.count _ _ told)
+    (same_bands c.args.rows.now.image c.args.count _ _ told)

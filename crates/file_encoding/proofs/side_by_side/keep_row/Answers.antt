@@ -12,7 +12,7 @@ use Rattle.file_encoding.proofs.side_by_side.keep_row.Goals.{After-keep_pieces}
 
 module _ (c : After-keep_pieces) (k : ℕ) (lt : k < length c.args.bands.now) where
   abbrev column : ℕ → List ℕ
-  column x = column_of c.args.params.now c.args.cube.now (get_or (bands_of c.args.bands.now) k 0 ∷ []) c.args.y x
+  column x = column_of c.args.params.now c.args.rows.now.image (get_or (bands_of c.args.bands.now) k 0 ∷ []) c.args.rows.now.y x
 
   abbrev kept : List ℕ
   kept = take c.min-count.result (get_or c.predict_pieces.new.bands (k + 0) no_band).piece
@@ -27,13 +27,13 @@ module _ (c : After-keep_pieces) (k : ℕ) (lt : k < length c.args.bands.now) wh
 pub loop-x-preserved : goal.loop-x-preserved
 loop-x-preserved c =
     let d = (goal.at.loop-x-preserved c).After-keep_pieces in
-    let within : c.loop-x.x + c.min-count.result ≤ c.args.cube.now.shape.columns = omega (arith, ap (λ s. s.columns) c.shape.ensures) in
+    let within : c.loop-x.x + c.min-count.result ≤ c.args.rows.now.image.shape.columns = omega (arith, ap (λ s. s.columns) c.shape.ensures) in
     record {
       within = within;
       at = past_at _ _ _ _ _ _ c.predict_pieces.ensures.past (omega arith);
       same = c.predict_pieces.ensures.same ∙ c.loop-x.invariant.same;
       kept = λ k lt.
-          let next = (piece_rest (column d k lt) c.loop-x.x c.min-count.result c.args.cube.now.shape.columns within).more in
+          let next = (piece_rest (column d k lt) c.loop-x.x c.min-count.result c.args.rows.now.image.shape.columns within).more in
           let many : k + 0 < length c.predict_pieces.new.bands = omega (arith, lt) in
           let place : c.args.start + (c.loop-x.x + c.min-count.result) ≡ c.args.start + c.loop-x.x + c.min-count.result = omega arith in
           ap (λ i. row_start c.args.stretch k i c.keep_pieces.new.room) place ∙ c.keep_pieces.ensures k no_band many
@@ -55,5 +55,5 @@ loop-x-init c = record {
 pub returns-clause-kept : goal.returns-clause-kept
 unfolding row_of
 returns-clause-kept c = λ k lt.
-    let all : c.loop-x.x ≡ c.args.cube.now.shape.columns = omega (arith, ap (λ s. s.columns) c.shape.ensures) in
+    let all : c.loop-x.x ≡ c.args.rows.now.image.shape.columns = omega (arith, ap (λ s. s.columns) c.shape.ensures) in
     rw all at (c.loop-x.invariant.kept k lt)

@@ -8,11 +8,11 @@ use Rattle.file_encoding.proofs.side_by_side.keep_row.Given as goal
 
 abbrev pub invariant-loop-x : goal.invariant-loop-x
 invariant-loop-x l = record {
-  within : l.x ≤ l.cube.shape.columns;
-  at : AreAt l.params l.cube (l.y * l.cube.shape.columns + l.x) l.bands;
+  within : l.x ≤ l.rows.image.shape.columns;
+  at : AreAt l.params l.rows.image (l.rows.y * l.rows.image.shape.columns + l.x) l.bands;
   same : bands_of l.bands ≡ bands_of l.initial.bands;
   kept : (k : ℕ) → k < length l.initial.bands → row_start l.stretch k (l.start + l.x) l.room ≡ row_start l.stretch k l.start l.initial.room
-      ++ flat_map (λ i. column_of l.params l.cube (get_or (bands_of l.initial.bands) k 0 ∷ []) l.y i) (upto l.x);
+      ++ flat_map (λ i. column_of l.params l.rows.image (get_or (bands_of l.initial.bands) k 0 ∷ []) l.rows.y i) (upto l.x);
 }
 
 abbrev pub decreases-loop-x : goal.decreases-loop-x

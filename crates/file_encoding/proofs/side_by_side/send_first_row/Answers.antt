@@ -13,9 +13,9 @@ use Rattle.file_encoding.proofs.side_by_side.send_first_row.Given.{Over}
 
 module _ (g : Over) (c : After-piece_residuals g) where
   abbrev column : ℕ → ℕ → List ℕ
-  column k x = column_of c.args.params.now c.args.cube.now (get_or (bands_of c.args.bands.now) k 0 ∷ []) c.args.y x
+  column k x = column_of c.args.params.now c.args.rows.now.image (get_or (bands_of c.args.bands.now) k 0 ∷ []) c.args.rows.now.y x
 
-  within : c.loop-x.x + c.min-count.result ≤ c.args.cube.now.shape.columns
+  within : c.loop-x.x + c.min-count.result ≤ c.args.rows.now.image.shape.columns
   within = omega (arith, ap (λ s. s.columns) c.shape.ensures)
 
   same : bands_of c.predict_pieces.new.bands ≡ bands_of c.args.bands.now
@@ -27,11 +27,11 @@ module _ (g : Over) (c : After-piece_residuals g) where
   held k b numbers lt is = row_piece _ _ _ _ _ k c.predict_pieces.new.bands _ b numbers (omega (arith, lt)) c.predict_pieces.ensures.past same is
 
   step : Steps g.T.Taker.may g.T.Taker.takes c.args.taker.now c.loop-x.taker
-      (row_of c.args.params.now c.args.cube.now (get_or (bands_of c.args.bands.now) 0 0 ∷ []) c.args.y) c.piece_residuals.result.now
+      (row_of c.args.params.now c.args.rows.now.image (get_or (bands_of c.args.bands.now) 0 0 ∷ []) c.args.rows.now.y) c.piece_residuals.result.now
       (flat_map (column 0) (upto (c.loop-x.x + c.min-count.result)))
   unfolding row_of
   step =
-      stepped g.met.T.Taker.laws c.loop-x.invariant.sent c.requires.may (piece_rest (column 0) _ _ c.args.cube.now.shape.columns within)
+      stepped g.met.T.Taker.laws c.loop-x.invariant.sent c.requires.may (piece_rest (column 0) _ _ c.args.rows.now.image.shape.columns within)
       (held 0 _ _ (omega (arith, c.requires.some)) c.piece_residuals.ensures.value)
 
 pub take-requires : goal.take-requires
@@ -51,7 +51,7 @@ loop-x-preserved g c =
       same = same g d;
       sent = (step g d).more _ _ c.if-not-take.false c.take.ensures;
       kept = λ k lt.
-          let next = (piece_rest (column g d (k + 1)) c.loop-x.x c.min-count.result c.args.cube.now.shape.columns (within g d)).more in
+          let next = (piece_rest (column g d (k + 1)) c.loop-x.x c.min-count.result c.args.rows.now.image.shape.columns (within g d)).more in
           let many : k + 1 < length c.predict_pieces.new.bands = omega (arith, lt) in
           let place : c.args.start + (c.loop-x.x + c.min-count.result) ≡ c.args.start + c.loop-x.x + c.min-count.result = omega arith in
           ap (λ i. row_start c.args.stretch k i c.keep_pieces.new.room) place ∙ c.keep_pieces.ensures k b many
@@ -74,11 +74,11 @@ loop-x-init g c = record {
 pub returns-clause-sent : goal.returns-clause-sent
 unfolding row_of
 returns-clause-sent g c =
-    let all : c.loop-x.x ≡ c.args.cube.now.shape.columns = omega (arith, ap (λ s. s.columns) c.shape.ensures) in
+    let all : c.loop-x.x ≡ c.args.rows.now.image.shape.columns = omega (arith, ap (λ s. s.columns) c.shape.ensures) in
     rw all at c.loop-x.invariant.sent
 
 pub returns-clause-kept : goal.returns-clause-kept
 unfolding row_of
 returns-clause-kept g c = λ went k lt.
-    let all : c.loop-x.x ≡ c.args.cube.now.shape.columns = omega (arith, ap (λ s. s.columns) c.shape.ensures) in
+    let all : c.loop-x.x ≡ c.args.rows.now.image.shape.columns = omega (arith, ap (λ s. s.columns) c.shape.ensures) in
     rw all at (c.loop-x.invariant.kept k lt)

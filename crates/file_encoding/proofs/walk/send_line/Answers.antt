@@ -12,23 +12,23 @@ use Rattle.file_encoding.proofs.walk.send_line.Given.{Over}
 
 module _ (g : Over) (c : After-count_own-count g) where
   abbrev run : ℕ → List ℕ
-  run i = row_of c.args.params.now c.args.cube.now (own c.args.predictor c.args.deal.now (group c.args.cube.now.shape c.args.depth i)) c.args.y
+  run i = row_of c.args.params.now c.args.rows.now.image (own c.args.predictor c.args.deal.now (group c.args.rows.now.image.shape c.args.depth i)) c.args.rows.now.y
 
-  there : IsGroup c.args.predictor c.args.deal.now c.args.cube.now.shape c.args.depth c.loop-i.i c.bands-total.result c.min-end.result c.loop-i.slot
+  there : IsGroup c.args.predictor c.args.deal.now c.args.rows.now.image.shape c.args.depth c.loop-i.i c.bands-total.result c.min-end.result c.loop-i.slot
       c.count_own-count.result c.loop-i.bands
   there =
       is_group _ _ _ _ _ _ _ _ _ _ _ c.requires.depth.0 (c.bands-total.ensures.value ∙ ap (λ s. s.bands) c.shape.ensures) c.loop-i-test.true
       c.loop-i.invariant.first c.min-end.ensures c.loop-i.invariant.slot c.count_own-count.ensures (c.loop-i.invariant.parted.same ∙ c.requires.own)
 
   step : Steps g.T.Taker.may g.T.Taker.takes c.args.taker.now c.loop-i.taker
-      (line_of c.args.params.now c.args.cube.now c.args.predictor c.args.deal.now c.args.depth c.args.y)
-      (row_of c.args.params.now c.args.cube.now
-      (bands_of (take (c.loop-i.slot + c.count_own-count.result - c.loop-i.slot) (drop c.loop-i.slot c.loop-i.bands))) c.args.y)
+      (line_of c.args.params.now c.args.rows.now.image c.args.predictor c.args.deal.now c.args.depth c.args.rows.now.y)
+      (row_of c.args.params.now c.args.rows.now.image
+      (bands_of (take (c.loop-i.slot + c.count_own-count.result - c.loop-i.slot) (drop c.loop-i.slot c.loop-i.bands))) c.args.rows.now.y)
       (flat_map run (upto (c.loop-i.i + 1)))
   unfolding line_of
   step =
       stepped g.met.T.Taker.laws c.loop-i.invariant.sent c.requires.may (upto_rest run _ _ there.in_order)
-      (ap (λ zs. row_of c.args.params.now c.args.cube.now zs c.args.y) there.there)
+      (ap (λ zs. row_of c.args.params.now c.args.rows.now.image zs c.args.rows.now.y) there.there)
 
 pub overflow_add-slot : goal.overflow_add-slot
 overflow_add-slot g c = let h = there g c in omega arith

@@ -18,16 +18,16 @@ step g c =
     stepped g.met.T.Taker.laws c.loop-y.invariant.sent c.requires.may (upto_rest _ _ _ next) refl
 
 pub send_line-requires-clause-may : goal.send_line-requires-clause-may
-send_line-requires-clause-may g c = (step g (goal.at.send_line-requires-clause-may g c).In-loop-y).fits
+send_line-requires-clause-may g c = rw c.of-rows.ensures ((step g (goal.at.send_line-requires-clause-may g c).In-loop-y).fits)
 
 pub returns-then-not-send_line : goal.returns-then-not-send_line
-returns-then-not-send_line g c = (step g (goal.at.returns-then-not-send_line g c).In-loop-y).cut _ _ c.if-not-send_line.true c.send_line.ensures.sent
+returns-then-not-send_line g c = (step g (goal.at.returns-then-not-send_line g c).In-loop-y).cut _ _ c.if-not-send_line.true (rw c.of-rows.ensures at c.send_line.ensures.sent)
 
 pub loop-y-preserved : goal.loop-y-preserved
 loop-y-preserved g c = record {
-  at = c.send_line.ensures.at c.if-not-send_line.false;
+  at = (rw c.of-rows.ensures at c.send_line.ensures.at) c.if-not-send_line.false;
   same = c.send_line.ensures.same ∙ c.loop-y.invariant.same;
-  sent = (step g (goal.at.loop-y-preserved g c).In-loop-y).more _ _ c.if-not-send_line.false c.send_line.ensures.sent;
+  sent = (step g (goal.at.loop-y-preserved g c).In-loop-y).more _ _ c.if-not-send_line.false (rw c.of-rows.ensures at c.send_line.ensures.sent);
 }
 
 pub loop-y-init : goal.loop-y-init

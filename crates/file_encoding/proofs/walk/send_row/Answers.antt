@@ -13,15 +13,15 @@ use Rattle.file_encoding.proofs.walk.send_row.Goals.{After-predict_pieces}
 use Rattle.file_encoding.proofs.walk.send_row.Given.{Over}
 
 module _ (g : Over) (c : After-predict_pieces g) where
-  within : c.loop-x.x + c.min-count.result ≤ c.args.cube.now.shape.columns
+  within : c.loop-x.x + c.min-count.result ≤ c.args.rows.now.image.shape.columns
   within = omega (arith, ap (λ s. s.columns) c.shape.ensures)
 
   same : bands_of c.predict_pieces.new.bands ≡ bands_of c.args.bands.now
   same = c.predict_pieces.ensures.same ∙ c.loop-x.invariant.same
 
   step : Steps g.T.Taker.may g.T.Taker.takes c.args.taker.now c.loop-x.taker
-      (row_of c.args.params.now c.args.cube.now (bands_of c.args.bands.now) c.args.y) (held_of c.predict_pieces.new.bands c.min-count.result)
-      (flat_map (λ x. column_of c.args.params.now c.args.cube.now (bands_of c.args.bands.now) c.args.y x) (upto (c.loop-x.x + c.min-count.result)))
+      (row_of c.args.params.now c.args.rows.now.image (bands_of c.args.bands.now) c.args.rows.now.y) (held_of c.predict_pieces.new.bands c.min-count.result)
+      (flat_map (λ x. column_of c.args.params.now c.args.rows.now.image (bands_of c.args.bands.now) c.args.rows.now.y x) (upto (c.loop-x.x + c.min-count.result)))
   unfolding row_of
   step =
       stepped g.met.T.Taker.laws c.loop-x.invariant.sent c.requires.may (piece_rest _ _ _ _ within)
@@ -52,7 +52,7 @@ loop-x-preserved g c =
 pub returns-clause-sent : goal.returns-clause-sent
 unfolding row_of
 returns-clause-sent g c =
-    let all : c.loop-x.x ≡ c.args.cube.now.shape.columns = omega (arith, ap (λ s. s.columns) c.shape.ensures) in
+    let all : c.loop-x.x ≡ c.args.rows.now.image.shape.columns = omega (arith, ap (λ s. s.columns) c.shape.ensures) in
     rw all at c.loop-x.invariant.sent
 
 pub loop-x-init : goal.loop-x-init

@@ -7,10 +7,10 @@ use Rattle.file_encoding.proofs.walk.send_row.Given as goal
 
 abbrev pub invariant-loop-x : goal.invariant-loop-x
 invariant-loop-x g l = record {
-  within : l.x ≤ l.cube.shape.columns;
-  at : AreAt l.params l.cube (l.y * l.cube.shape.columns + l.x) l.bands;
+  within : l.x ≤ l.rows.image.shape.columns;
+  at : AreAt l.params l.rows.image (l.rows.y * l.rows.image.shape.columns + l.x) l.bands;
   same : bands_of l.bands ≡ bands_of l.initial.bands;
-  sent : g.T.Taker.takes l.initial.taker l.taker true (flat_map (λ x. column_of l.params l.cube (bands_of l.initial.bands) l.y x) (upto l.x));
+  sent : g.T.Taker.takes l.initial.taker l.taker true (flat_map (λ x. column_of l.params l.rows.image (bands_of l.initial.bands) l.rows.y x) (upto l.x));
 }
 
 abbrev pub decreases-loop-x : goal.decreases-loop-x

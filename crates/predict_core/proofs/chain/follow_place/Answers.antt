@@ -40,17 +40,17 @@ pub returns-clause-followed : goal.returns-clause-followed
 returns-clause-followed g c first begun h =
     let s = c.args.run.settings.now in let fits : SFits w32 c.follow_at.result = search rules in
     let within : c.args.i < length c.args.parts.now = search rules in
-    let column : c.args.x + c.args.i < c.args.cube.now.shape.columns = omega (arith, c.requires.run.inside) in
-    let there : (p : Params) → AreWeightsAt p s.predictor c.args.cube.now s.band
-    (c.args.y * c.args.cube.now.shape.columns + (c.args.x + first)) (take s.count begun) → AreWeightsAt p s.predictor c.args.cube.now
-    s.band (c.args.y * c.args.cube.now.shape.columns + (c.args.x + c.args.i)) (take s.count c.args.weights.now) =
+    let column : c.args.x + c.args.i < c.args.rows.now.image.shape.columns = omega (arith, c.requires.run.inside) in
+    let there : (p : Params) → AreWeightsAt p s.predictor c.args.rows.now.image s.band
+    (c.args.y * c.args.rows.now.image.shape.columns + (c.args.x + first)) (take s.count begun) → AreWeightsAt p s.predictor c.args.rows.now.image
+    s.band (c.args.y * c.args.rows.now.image.shape.columns + (c.args.x + c.args.i)) (take s.count c.args.weights.now) =
     λ p f. record { predictor = f.predictor; weights = h.weights p f } in
     rw (to_z-of_z fits)
     (record {
       weights = λ p f. weights_next p s.predictor _ s.band _ _ _ (take s.count c.args.weights.now) c.requires.later column (there p f)
           (take s.count c.follow_at.new.weights) c.follow_at.ensures.weights;
-      predicted = λ p f. written_place (λ k v. scaled_prediction p c.args.cube.now s.band (c.args.y * c.args.cube.now.shape.columns + (c.args.x + k))
-          ≡ scaled_by_difference c.args.cube.now.kind v (local_sum s.predictor c.args.cube.now s.band c.args.y (c.args.x + k))) _ _ _ _ within
+      predicted = λ p f. written_place (λ k v. scaled_prediction p c.args.rows.now.image s.band (c.args.y * c.args.rows.now.image.shape.columns + (c.args.x + k))
+          ≡ scaled_by_difference c.args.rows.now.image.kind v (local_sum s.predictor c.args.rows.now.image s.band c.args.y (c.args.x + k))) _ _ _ _ within
           (part_is p s.predictor _ s.band _ _ _ (take s.count c.args.weights.now) c.requires.later column (there p f) _ c.follow_at.ensures.scaled)
           (h.predicted p f);
       small = written_place (λ k v. unsigned_abs v ≤ 18874368) _ _ _ _ within c.follow_at.ensures.small h.small;

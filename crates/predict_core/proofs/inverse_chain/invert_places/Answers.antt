@@ -22,7 +22,7 @@ loop-i-init g c = record {
   weights = λ p f. f.weights ∙ ap (weight_vector p c.args.cube c.args.run.settings.now.band) (omega arith);
   bound = c.requires.weights_in;
   steps = λ k le lt. absurd (omega (arith, lt));
-  west = (let none : c.args.run.x + 0 ≡ c.args.run.x = omega arith in rw none c.west_of-west.ensures);
+  west = (let none : c.args.run.x + 0 ≡ c.args.run.x = omega arith in rw none (rw c.of.ensures at c.west_of-west.ensures));
   whole = c.prove_is_cube.ensures.whole;
 }
 

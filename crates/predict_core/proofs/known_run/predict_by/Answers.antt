@@ -33,4 +33,4 @@ pub write_residuals-requires-then-this-ne0 : goal.write_residuals-requires-then-
 write_residuals-requires-then-this-ne0 g c =
     let o = c.requires.other in let pair : not (nat_eq g.row.PAIR 0) ≡ true = search rules in
     let room = c.fill_run-then-this-ne0.ensures in let told = c.follow_run.ensures.other_followed pair in
-    (omega arith, (room, (o.place, (o.kind, (o.some, (o.few, (o.inside, (c.first_later-first.ensures, told.small))))))))
+    (omega arith, (c.requires.row, (room, (o.place, (o.kind, (o.some, (o.few, (o.inside, (c.first_later-first.ensures, told.small)))))))))

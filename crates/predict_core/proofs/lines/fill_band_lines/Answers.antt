@@ -3,5 +3,5 @@ use Rattle.predict_core.proofs.lines.fill_band_lines.Goals as goal
 
 pub returns : goal.returns
 returns c =
-    let upper = rw c.saturating_sub.ensures at c.row-above.ensures.samples in
-    band_lines _ _ _ _ _ _ _ _ _ _ c.requires.inside c.row-row.ensures.len c.row-row.ensures.samples upper c.requires.wide c.fill_lines.ensures c.requires.some
+    let own = rw c.requires.row at c.row-row.ensures.samples in let upper = rw c.requires.row at c.row_above-above.ensures.samples in
+    band_lines _ _ _ _ _ _ _ _ _ _ c.requires.inside c.row-row.ensures.len own upper c.requires.wide c.fill_lines.ensures c.requires.some

@@ -14,19 +14,19 @@ follow_places-requires g c =
     (omega arith, (omega arith, (run, (other, (omega arith, (later, (steps, (c.requires.same, (kept.bound, kept.other_bound)))))))))
   where
     exponent : (i : ℕ) → c.loop-at.at ≤ i → i < c.loop-at.at + c.places_alike.result
-        → to_z w32 (of_z w32 c.exponent_at.result) ≡ step_exponent c.args.run.settings.now.predictor c.args.cube.now.shape.columns c.args.cube.now.kind.bits
-        (c.args.y * c.args.cube.now.shape.columns + (c.args.x + i))
+        → to_z w32 (of_z w32 c.exponent_at.result) ≡ step_exponent c.args.run.settings.now.predictor c.args.rows.now.image.shape.columns c.args.rows.now.image.kind.bits
+        (c.args.y * c.args.rows.now.image.shape.columns + (c.args.x + i))
     exponent i l m =
         let s = c.args.run.settings.now in let fits : SFits w32 c.exponent_at.result = search rules in let e = c.requires.run.columns in
-        let place : c.args.y * s.columns + c.args.x + c.loop-at.at + (i - c.loop-at.at) ≡ c.args.y * c.args.cube.now.shape.columns + (c.args.x + i) =
+        let place : c.args.y * s.columns + c.args.x + c.loop-at.at + (i - c.loop-at.at) ≡ c.args.y * c.args.rows.now.image.shape.columns + (c.args.x + i) =
         rw e (omega (arith, l)) in
         rw (to_z-of_z fits)
         (piece_exponent s.predictor _ s.columns s.range.bits (c.args.y * s.columns + c.args.x + c.loop-at.at) _ _
-        (c.args.y * c.args.cube.now.shape.columns + (c.args.x + i)) (i - c.loop-at.at)
+        (c.args.y * c.args.rows.now.image.shape.columns + (c.args.x + i)) (i - c.loop-at.at)
         c.exponent_at.ensures.value (c.places_alike.ensures.alike s.range.bits (i - c.loop-at.at) (omega (arith, l, m))) e
         (ap (λ k. k.bits) c.requires.run.kind ∙ sym s.range.bits_is) place)
 
-    steps : (i : ℕ) → c.loop-at.at ≤ i → i < c.loop-at.at + c.places_alike.result → AreStepsThere c.args.run.settings.now c.args.cube.now
+    steps : (i : ℕ) → c.loop-at.at ≤ i → i < c.loop-at.at + c.places_alike.result → AreStepsThere c.args.run.settings.now c.args.rows.now.image
         c.args.run.settings.now.predictor.omega c.args.run.settings.now.range.bits (to_z w32 (of_z w32 c.exponent_at.result)) c.args.y (c.args.x + i)
     steps i l m = record { omega_is = refl; bits_are = refl; exponent_is = exponent i l m }
 

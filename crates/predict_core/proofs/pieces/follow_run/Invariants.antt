@@ -7,9 +7,9 @@ abbrev pub invariant-loop-at : goal.invariant-loop-at
 invariant-loop-at g l = record {
   begun : l.first ≤ l.at;
   within : l.at ≤ l.last;
-  followed : IsFollowed l.run.settings.now l.cube l.y l.x l.first l.initial.state.weights l.at l.state.weights l.state.parts;
+  followed : IsFollowed l.run.settings.now l.rows.image l.y l.x l.first l.initial.state.weights l.at l.state.weights l.state.parts;
   other : not (nat_eq g.row.PAIR 0) ≡ true
-      → IsFollowed l.other.settings.now l.cube l.y l.x l.first l.initial.beside.weights l.at l.beside.weights l.beside.parts;
+      → IsFollowed l.other.settings.now l.rows.image l.y l.x l.first l.initial.beside.weights l.at l.beside.weights l.beside.parts;
   bound : AllWithin (2 ^ (l.run.settings.now.predictor.omega + 2)) l.state.weights;
   other_bound : AllWithin (2 ^ (l.run.settings.now.predictor.omega + 2)) l.beside.weights;
 }

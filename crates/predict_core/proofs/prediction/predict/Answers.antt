@@ -10,9 +10,9 @@ use Rattle.predict_core.proofs.prediction.predict.Goals as goal
 pub returns-clause-value : goal.returns-clause-value
 returns-clause-value c =
     let s = c.args.settings.now in let r = s.range in let fits : SFits w32 c.scaled_by-scaled.result = search rules in
-    let low : smin c.args.cube.now.kind ≡ r.smin = ap (λ (k : SampleKind). smin k) c.requires.kind ∙ sym r.smin_is in
-    let us = difference_vector s.predictor c.args.cube.now s.band c.args.y c.args.x in
-    let long : length us ≡ s.count = vector_length s.predictor c.args.cube.now s.band c.args.y c.args.x ∙ sym s.count_is in
+    let low : smin c.args.rows.now.image.kind ≡ r.smin = ap (λ (k : SampleKind). smin k) c.requires.kind ∙ sym r.smin_is in
+    let us = difference_vector s.predictor c.args.rows.now.image s.band c.args.y c.args.x in
+    let long : length us ≡ s.count = vector_length s.predictor c.args.rows.now.image s.band c.args.y c.args.x ∙ sym s.count_is in
     let padded = rw (← s.count_is) at c.fill_differences.ensures.value in
     let e = rw (whole_sum r.smin c.sum_at-sum.result r.low c.sum_at-sum.ensures.bound) at c.scaled_by-scaled.ensures.value us long padded in
     rw (to_z-of_z fits, ← s.count_is)
@@ -21,9 +21,9 @@ returns-clause-value c =
 pub returns-clause-bound : goal.returns-clause-bound
 returns-clause-bound c =
     let s = c.args.settings.now in
-    let bits : s.range.bits ≡ c.args.cube.now.kind.bits = s.range.bits_is ∙ ap (λ (k : SampleKind). k.bits) (sym c.requires.kind) in rw bits
-    (subst (AllWithin (4 * 2 ^ c.args.cube.now.kind.bits)) (sym c.fill_differences.ensures.value)
-    (padded_within s.predictor c.args.cube.now c.prove_is_cube.ensures c.args.y c.args.x c.requires.later (rw c.requires.columns s.wide)
+    let bits : s.range.bits ≡ c.args.rows.now.image.kind.bits = s.range.bits_is ∙ ap (λ (k : SampleKind). k.bits) (sym c.requires.kind) in rw bits
+    (subst (AllWithin (4 * 2 ^ c.args.rows.now.image.kind.bits)) (sym c.fill_differences.ensures.value)
+    (padded_within s.predictor c.args.rows.now.image c.prove_is_row.ensures.cube c.args.y c.args.x c.requires.later (rw c.requires.columns s.wide)
     s.band c.requires.place _))
 
 pub scaled_by-scaled-requires-clause-sum_in : goal.scaled_by-scaled-requires-clause-sum_in

@@ -8,13 +8,13 @@ ghost use Rattle.predict_core.specs.GroupLines.{IsLongDifference, HoldsDirection
 
 use crate::lines::Lines;
 use crate::settings::Settings;
-use cube_core::cube::Cube;
 use sample_prediction::predictor::MOST_COMPONENTS;
+use sample_prediction::rows::Rows;
 
 /// Writes the directional differences into the first three lines of components (CCSDS 123.0-B-1, "Local Differences").
 pub(crate) fn fill_directions(
     settings: &Settings,
-    cube: &Cube,
+    rows: &Rows,
     y: u32,
     x: u32,
     count: usize,
@@ -22,16 +22,16 @@ pub(crate) fn fill_directions(
     sums: &[i32; 64],
     components: &mut [[i32; 64]; MOST_COMPONENTS],
 )
-    requires place { IsPlace cube.now.shape settings.now.band y x }
-    requires columns { cube.now.shape.columns ≡ settings.now.columns }
+    requires place { IsPlace rows.now.image.shape settings.now.band y x }
+    requires columns { rows.now.image.shape.columns ≡ settings.now.columns }
     requires few { count ≤ 64 }
-    requires inside { x + count ≤ cube.now.shape.columns }
-    requires lines { AreBandLines settings.now.predictor cube.now settings.now.band y x count lines.now.current lines.now.above }
+    requires inside { x + count ≤ rows.now.image.shape.columns }
+    requires lines { AreBandLines settings.now.predictor rows.now.image settings.now.band y x count lines.now.current lines.now.above }
     requires sums { (i : ℕ) → i < count → 0 < y + (x + i) → slice_index_or sums.now i (pos 0) ≡ pos (line_sum (settings.now.predictor.column || y == 0)
         lines.now.current lines.now.above i) }
-    ensures { HoldsDirections settings.now.predictor cube.now settings.now.band y x count components.new }
+    ensures { HoldsDirections settings.now.predictor rows.now.image settings.now.band y x count components.new }
 {
-    cube.prove_is_cube();
+    rows.prove_is_row();
     if y == 0 {
         clear(0, components);
         clear(1, components);

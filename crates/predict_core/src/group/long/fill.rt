@@ -6,12 +6,12 @@ ghost use Rattle.predict_core.specs.GroupLines.{AreLongLines, AreAlike, HoldLong
 
 use crate::band::Band;
 use crate::group::long::lines::{LongLines, fill_band};
-use cube_core::cube::Cube;
+use sample_prediction::rows::Rows;
 
 /// Writes the lines of a band's next `count` places, with `n` lines of components.
 fn fill_lane(
     band: &Band,
-    cube: &Cube,
+    rows: &Rows,
     y: u32,
     x: u32,
     count: usize,
@@ -19,38 +19,40 @@ fn fill_lane(
     n: usize,
     out: &mut LongLines,
 )
-    requires next { IsPieceNext band.now cube.now y x count }
+    requires row { rows.now.y ≡ y }
+    requires next { IsPieceNext band.now rows.now.image y x count }
     requires some { 1 ≤ count }
     requires lines { n ≤ 18 }
-    requires before { HoldLongCentrals band.now.predictor cube.now y x count before.now }
-    requires lower { HoldLongComponents n band.now.predictor cube.now y x count before.now }
-    ensures { AreLongLines n band.now.predictor band.now.band cube.now y x count out.new }
+    requires before { HoldLongCentrals band.now.predictor rows.now.image y x count before.now }
+    requires lower { HoldLongComponents n band.now.predictor rows.now.image y x count before.now }
+    ensures { AreLongLines n band.now.predictor band.now.band rows.now.image y x count out.new }
 {
-    fill_band(&band.settings, cube, y, x, count, before, n, out);
+    fill_band(&band.settings, rows, y, x, count, before, n, out);
 }
 
 /// Writes the lines of the next `count` places of eight bands, with `n` lines of components: after the last band it stands for the
 /// others.
 pub(crate) fn fill_lanes(
     bands: &[Band],
-    cube: &Cube,
+    rows: &Rows,
     y: u32,
     x: u32,
     count: usize,
     n: usize,
     out: &mut [LongLines; 8],
 )
+    requires row { rows.now.y ≡ y }
     requires some_bands { 1 ≤ length bands.now }
-    requires next { (i : ℕ) (b : PredictorState) → slice_get bands.now i ≡ Some b → IsPieceNext b cube.now y x count }
+    requires next { (i : ℕ) (b : PredictorState) → slice_get bands.now i ≡ Some b → IsPieceNext b rows.now.image y x count }
     requires alike { AreAlike bands.now }
     requires some { 1 ≤ count }
     requires lines { n ≤ 18 }
     ensures { (i : ℕ) (b : PredictorState) → i < 8 → slice_get bands.now (min i (length bands.now - 1)) ≡ Some b
-        → AreLongLines n b.predictor b.band cube.now y x count (slice_index_or out.new i no_long_lines) }
+        → AreLongLines n b.predictor b.band rows.now.image y x count (slice_index_or out.new i no_long_lines) }
 {
     for i in 0..8usize {
         let band = &bands[i.min(bands.len() - 1)];
         let (before, rest) = out.split_at_mut(i);
-        fill_lane(band, cube, y, x, count, before, n, &mut rest[0]);
+        fill_lane(band, rows, y, x, count, before, n, &mut rest[0]);
     }
 }

@@ -12,8 +12,8 @@ use crate::fills::fill_own;
 use crate::group::long::directions::{clear_line, fill_directions};
 use crate::lines::{Lines, fill_band_lines, is_column};
 use crate::settings::Settings;
-use cube_core::cube::Cube;
 use sample_prediction::predictor::{MOST_COMPONENTS, Predictor};
+use sample_prediction::rows::Rows;
 
 /// What the samples tell of the places of a piece of one band: the local sums of offsets, the central differences, and the
 /// components of the difference vectors, a line for each component.
@@ -29,7 +29,7 @@ pub(crate) struct LongLines {
 /// (CCSDS 123.0-B-1, "Local Sums", "Local Differences").
 pub(crate) fn fill_central(
     predictor: &Predictor,
-    cube: &Cube,
+    rows: &Rows,
     z: u32,
     y: u32,
     x: u32,
@@ -37,20 +37,21 @@ pub(crate) fn fill_central(
     sums: &mut [i32; 64],
     own: &mut [i32; 64],
 ) -> Lines
-    requires place { IsPlace cube.now.shape z y x }
+    requires row { rows.now.y ≡ y }
+    requires place { IsPlace rows.now.image.shape z y x }
     requires some { 1 ≤ count }
     requires few { count ≤ 64 }
-    requires inside { x + count ≤ cube.now.shape.columns }
-    requires wide { predictor.now.column ≡ false → 2 ≤ cube.now.shape.columns }
-    ensures lines { AreBandLines predictor.now cube.now z y x count result.current result.above }
+    requires inside { x + count ≤ rows.now.image.shape.columns }
+    requires wide { predictor.now.column ≡ false → 2 ≤ rows.now.image.shape.columns }
+    ensures lines { AreBandLines predictor.now rows.now.image z y x count result.current result.above }
     ensures sums { (i : ℕ) → i < count → 0 < y + (x + i) → slice_index_or sums.new i (pos 0) ≡ pos (line_sum (predictor.now.column || y == 0)
         result.current result.above i) }
-    ensures sums_are { HoldsSums predictor.now cube.now z y x count sums.new }
-    ensures own_are { HoldsCentral predictor.now cube.now z y x count own.new }
+    ensures sums_are { HoldsSums predictor.now rows.now.image z y x count sums.new }
+    ensures own_are { HoldsCentral predictor.now rows.now.image z y x count own.new }
 {
-    cube.prove_is_cube();
+    rows.prove_is_row();
     let mut lines = Lines::empty();
-    fill_band_lines(predictor, cube, z, y, x, count, &mut lines);
+    fill_band_lines(predictor, rows, z, y, x, count, &mut lines);
     fill_own(is_column(predictor.column, y), &lines, sums, own);
     lines
 }
@@ -61,7 +62,7 @@ pub(crate) fn fill_central(
 /// differences already.
 fn fill_lower(
     settings: &Settings,
-    cube: &Cube,
+    rows: &Rows,
     y: u32,
     x: u32,
     count: usize,
@@ -69,15 +70,16 @@ fn fill_lower(
     before: &[LongLines],
     out: &mut [i32; 64],
 )
-    requires place { IsPlace cube.now.shape settings.now.band y x }
-    requires columns { cube.now.shape.columns ≡ settings.now.columns }
+    requires row { rows.now.y ≡ y }
+    requires place { IsPlace rows.now.image.shape settings.now.band y x }
+    requires columns { rows.now.image.shape.columns ≡ settings.now.columns }
     requires some { 1 ≤ count }
     requires few { count ≤ 64 }
-    requires inside { x + count ≤ cube.now.shape.columns }
+    requires inside { x + count ≤ rows.now.image.shape.columns }
     requires below_in { 1 ≤ below }
-    requires before { HoldLongCentrals settings.now.predictor cube.now y x count before.now }
-    requires components { HoldLongComponents (spectral_from settings.now.predictor + below) settings.now.predictor cube.now y x count before.now }
-    ensures { (i : ℕ) → i < count → 0 < y + (x + i) → slice_index_or out.new i (pos 0) ≡ lower_difference settings.now.predictor cube.now settings.now.band y
+    requires before { HoldLongCentrals settings.now.predictor rows.now.image y x count before.now }
+    requires components { HoldLongComponents (spectral_from settings.now.predictor + below) settings.now.predictor rows.now.image y x count before.now }
+    ensures { (i : ℕ) → i < count → 0 < y + (x + i) → slice_index_or out.new i (pos 0) ≡ lower_difference settings.now.predictor rows.now.image settings.now.band y
         (x + i) below }
 {
     if below > settings.near {
@@ -93,7 +95,7 @@ fn fill_lower(
     }
     let z = settings.band - below as u32;
     let mut sums = [0; 64];
-    fill_central(&settings.predictor, cube, z, y, x, count, &mut sums, out);
+    fill_central(&settings.predictor, rows, z, y, x, count, &mut sums, out);
 }
 
 /// Writes the central differences of the band that is `below` bands below the next one to these lines' band.
@@ -112,7 +114,7 @@ fn copy_lower(reduced: bool, below: usize, lines: &LongLines, out: &mut [i32; 64
 /// Writes the central differences of the previous bands into the lines of components that follow the directional ones, up to line `n`.
 fn fill_spectral(
     settings: &Settings,
-    cube: &Cube,
+    rows: &Rows,
     y: u32,
     x: u32,
     count: usize,
@@ -120,27 +122,28 @@ fn fill_spectral(
     n: usize,
     components: &mut [[i32; 64]; MOST_COMPONENTS],
 )
-    requires place { IsPlace cube.now.shape settings.now.band y x }
-    requires columns { cube.now.shape.columns ≡ settings.now.columns }
+    requires row { rows.now.y ≡ y }
+    requires place { IsPlace rows.now.image.shape settings.now.band y x }
+    requires columns { rows.now.image.shape.columns ≡ settings.now.columns }
     requires some { 1 ≤ count }
     requires few { count ≤ 64 }
-    requires inside { x + count ≤ cube.now.shape.columns }
+    requires inside { x + count ≤ rows.now.image.shape.columns }
     requires lines { n ≤ 18 }
-    requires before { HoldLongCentrals settings.now.predictor cube.now y x count before.now }
-    requires components { HoldLongComponents n settings.now.predictor cube.now y x count before.now }
+    requires before { HoldLongCentrals settings.now.predictor rows.now.image y x count before.now }
+    requires components { HoldLongComponents n settings.now.predictor rows.now.image y x count before.now }
     ensures spectral { (i k : ℕ) → i < count → 0 < y + (x + i) → spectral_from settings.now.predictor ≤ k → k < n → place components.new k i
-        ≡ lower_difference settings.now.predictor cube.now settings.now.band y (x + i) (k - spectral_from settings.now.predictor + 1) }
+        ≡ lower_difference settings.now.predictor rows.now.image settings.now.band y (x + i) (k - spectral_from settings.now.predictor + 1) }
     ensures others { (k i : ℕ) → k < spectral_from settings.now.predictor → place components.new k i ≡ place components.old k i }
 {
     for k in first_spectral(settings.predictor.reduced)..n {
-        fill_spectral_line(settings, cube, y, x, count, before, k, components);
+        fill_spectral_line(settings, rows, y, x, count, before, k, components);
     }
 }
 
 /// Writes the central differences of the previous band whose component is number `k`.
 fn fill_spectral_line(
     settings: &Settings,
-    cube: &Cube,
+    rows: &Rows,
     y: u32,
     x: u32,
     count: usize,
@@ -148,22 +151,23 @@ fn fill_spectral_line(
     k: usize,
     components: &mut [[i32; 64]; MOST_COMPONENTS],
 )
-    requires place { IsPlace cube.now.shape settings.now.band y x }
-    requires columns { cube.now.shape.columns ≡ settings.now.columns }
+    requires row { rows.now.y ≡ y }
+    requires place { IsPlace rows.now.image.shape settings.now.band y x }
+    requires columns { rows.now.image.shape.columns ≡ settings.now.columns }
     requires some { 1 ≤ count }
     requires few { count ≤ 64 }
-    requires inside { x + count ≤ cube.now.shape.columns }
+    requires inside { x + count ≤ rows.now.image.shape.columns }
     requires line { (spectral_from settings.now.predictor ≤ k) × (k < 18) }
-    requires before { HoldLongCentrals settings.now.predictor cube.now y x count before.now }
-    requires components { HoldLongComponents (k + 1) settings.now.predictor cube.now y x count before.now }
-    ensures spectral { (i : ℕ) → i < count → 0 < y + (x + i) → place components.new k i ≡ lower_difference settings.now.predictor cube.now
+    requires before { HoldLongCentrals settings.now.predictor rows.now.image y x count before.now }
+    requires components { HoldLongComponents (k + 1) settings.now.predictor rows.now.image y x count before.now }
+    ensures spectral { (i : ℕ) → i < count → 0 < y + (x + i) → place components.new k i ≡ lower_difference settings.now.predictor rows.now.image
         settings.now.band y (x + i) (k - spectral_from settings.now.predictor + 1) }
     ensures others { (j i : ℕ) → j ≢ k → place components.new j i ≡ place components.old j i }
 {
     let below = k - first_spectral(settings.predictor.reduced) + 1;
     fill_lower(
         settings,
-        cube,
+        rows,
         y,
         x,
         count,
@@ -179,7 +183,7 @@ fn fill_spectral_line(
 /// nothing useful is written (CCSDS 123.0-B-1, "Local Sums", "Local Differences").
 pub(crate) fn fill_band(
     settings: &Settings,
-    cube: &Cube,
+    rows: &Rows,
     y: u32,
     x: u32,
     count: usize,
@@ -187,20 +191,21 @@ pub(crate) fn fill_band(
     n: usize,
     out: &mut LongLines,
 )
-    requires place { IsPlace cube.now.shape settings.now.band y x }
-    requires columns { cube.now.shape.columns ≡ settings.now.columns }
+    requires row { rows.now.y ≡ y }
+    requires place { IsPlace rows.now.image.shape settings.now.band y x }
+    requires columns { rows.now.image.shape.columns ≡ settings.now.columns }
     requires some { 1 ≤ count }
     requires few { count ≤ 64 }
-    requires inside { x + count ≤ cube.now.shape.columns }
+    requires inside { x + count ≤ rows.now.image.shape.columns }
     requires lines { n ≤ 18 }
-    requires before { HoldLongCentrals settings.now.predictor cube.now y x count before.now }
-    requires lower { HoldLongComponents n settings.now.predictor cube.now y x count before.now }
-    ensures { AreLongLines n settings.now.predictor settings.now.band cube.now y x count out.new }
+    requires before { HoldLongCentrals settings.now.predictor rows.now.image y x count before.now }
+    requires lower { HoldLongComponents n settings.now.predictor rows.now.image y x count before.now }
+    ensures { AreLongLines n settings.now.predictor settings.now.band rows.now.image y x count out.new }
 {
     out.band = settings.band;
     let lines = fill_central(
         &settings.predictor,
-        cube,
+        rows,
         settings.band,
         y,
         x,
@@ -208,13 +213,13 @@ pub(crate) fn fill_band(
         &mut out.sums,
         &mut out.own,
     );
-    fill_components(settings, cube, y, x, count, before, n, &lines, out);
+    fill_components(settings, rows, y, x, count, before, n, &lines, out);
 }
 
 /// Writes the components of a band whose local sums are written.
 fn fill_components(
     settings: &Settings,
-    cube: &Cube,
+    rows: &Rows,
     y: u32,
     x: u32,
     count: usize,
@@ -223,18 +228,19 @@ fn fill_components(
     lines: &Lines,
     out: &mut LongLines,
 )
-    requires place { IsPlace cube.now.shape settings.now.band y x }
-    requires columns { cube.now.shape.columns ≡ settings.now.columns }
+    requires row { rows.now.y ≡ y }
+    requires place { IsPlace rows.now.image.shape settings.now.band y x }
+    requires columns { rows.now.image.shape.columns ≡ settings.now.columns }
     requires some { 1 ≤ count }
     requires few { count ≤ 64 }
-    requires inside { x + count ≤ cube.now.shape.columns }
+    requires inside { x + count ≤ rows.now.image.shape.columns }
     requires n_in { n ≤ 18 }
-    requires before { HoldLongCentrals settings.now.predictor cube.now y x count before.now }
-    requires lower { HoldLongComponents n settings.now.predictor cube.now y x count before.now }
-    requires lines { AreBandLines settings.now.predictor cube.now settings.now.band y x count lines.now.current lines.now.above }
+    requires before { HoldLongCentrals settings.now.predictor rows.now.image y x count before.now }
+    requires lower { HoldLongComponents n settings.now.predictor rows.now.image y x count before.now }
+    requires lines { AreBandLines settings.now.predictor rows.now.image settings.now.band y x count lines.now.current lines.now.above }
     requires sums { (i : ℕ) → i < count → 0 < y + (x + i) → slice_index_or out.old.sums i (pos 0) ≡ pos (line_sum (settings.now.predictor.column || y == 0)
         lines.now.current lines.now.above i) }
-    ensures components { HoldsComponents n settings.now.predictor cube.now settings.now.band y x count out.new.components }
+    ensures components { HoldsComponents n settings.now.predictor rows.now.image settings.now.band y x count out.new.components }
     ensures band { out.new.band ≡ out.old.band }
     ensures sums { out.new.sums ≡ out.old.sums }
     ensures own { out.new.own ≡ out.old.own }
@@ -242,7 +248,7 @@ fn fill_components(
     if !settings.predictor.reduced {
         fill_directions(
             settings,
-            cube,
+            rows,
             y,
             x,
             count,
@@ -251,7 +257,7 @@ fn fill_components(
             &mut out.components,
         );
     }
-    fill_spectral(settings, cube, y, x, count, before, n, &mut out.components);
+    fill_spectral(settings, rows, y, x, count, before, n, &mut out.components);
 }
 
 /// Writes the numbers of another line.

@@ -24,10 +24,10 @@ use crate::group::long::rows::{fill_own, fill_rows};
 use crate::group::long::steps::follow_piece;
 use crate::group::long::weights::fill_weights;
 use crate::known_run::first_later;
-use band_lanes::four::rows::Rows;
-use cube_core::cube::Cube;
+use band_lanes::four::rows::Rows as LaneRows;
 use lanes::turn_four::turn_four_back;
 use sample_prediction::predictor::MOST_COMPONENTS;
+use sample_prediction::rows::Rows;
 
 /// `follow_piece` with the constants of a band's predictor.
 fn follow_band<const Q: usize>(
@@ -36,7 +36,7 @@ fn follow_band<const Q: usize>(
     x: u32,
     first: usize,
     last: usize,
-    rows: &[Rows; MOST_COMPONENTS],
+    rows: &[LaneRows; MOST_COMPONENTS],
     own: &[[i32; 4]; 64],
     weights: &mut [[i32; 4]; MOST_COMPONENTS],
     parts: &mut [[i32; 4]; 64],
@@ -64,7 +64,7 @@ fn follow_band<const Q: usize>(
 /// `first` is the first place that isn't the first of the bands.
 fn predict_lanes<const Q: usize>(
     bands: &[Band],
-    cube: &Cube,
+    rows: &Rows,
     y: u32,
     x: u32,
     first: usize,
@@ -75,15 +75,15 @@ fn predict_lanes<const Q: usize>(
 )
     requires pairs { Q ≤ 9 }
     requires few { (1 ≤ length bands.now) × (length bands.now ≤ 4) }
-    requires ready { AreLongReady Q bands.now cube.now y x count }
+    requires ready { AreLongReady Q bands.now rows.now.image y x count }
     requires first { IsFirstLater y x first }
     requires from { from + 4 ≤ 8 }
     requires lines { (b : ℕ) (s : PredictorState) → b < 4 → slice_get bands.now (min b (length bands.now - 1)) ≡ Some s
-        → AreLongLines (2 * Q) s.predictor s.band cube.now y x count (slice_index_or lines.now (from + b) no_long_lines) }
+        → AreLongLines (2 * Q) s.predictor s.band rows.now.image y x count (slice_index_or lines.now (from + b) no_long_lines) }
     ensures { (k : ℕ) (b : PredictorState) → slice_get bands.now k ≡ Some b
-        → IsLongPredicted Q k b cube.now y x first count (slice_index_or lines.now (from + k) no_long_lines).sums room.new.weights room.new.parts }
+        → IsLongPredicted Q k b rows.now.image y x first count (slice_index_or lines.now (from + k) no_long_lines).sums room.new.weights room.new.parts }
 {
-    cube.prove_is_cube();
+    rows.prove_is_row();
     fill_weights::<Q>(bands, &mut room.weights);
     fill_rows::<Q>(lines, from, &mut room.components);
     fill_own(lines, from, &mut room.own);
@@ -105,7 +105,7 @@ fn predict_lanes<const Q: usize>(
 /// Advances each of one to four bands by a piece whose differences are predicted.
 fn finish_lanes<const Q: usize>(
     bands: &mut [Band],
-    cube: &Cube,
+    rows: &Rows,
     y: u32,
     x: u32,
     first: usize,
@@ -114,17 +114,18 @@ fn finish_lanes<const Q: usize>(
     from: usize,
     room: &FourRoom,
 )
+    requires row { rows.now.y ≡ y }
     requires pairs { Q ≤ 9 }
     requires few { (1 ≤ length bands.old) × (length bands.old ≤ 4) }
-    requires ready { AreLongReady Q bands.old cube.now y x count }
+    requires ready { AreLongReady Q bands.old rows.now.image y x count }
     requires first { IsFirstLater y x first }
     requires from { from + 4 ≤ 8 }
     requires predicted { (k : ℕ) (b : PredictorState) → slice_get bands.old k ≡ Some b
-        → IsLongPredicted Q k b cube.now y x first count (slice_index_or lines.now (from + k) no_long_lines).sums room.now.weights room.now.parts }
-    ensures { AllZip (HoldsPiece cube.now count) bands.old bands.new }
+        → IsLongPredicted Q k b rows.now.image y x first count (slice_index_or lines.now (from + k) no_long_lines).sums room.now.weights room.now.parts }
+    ensures { AllZip (HoldsPiece rows.now.image count) bands.old bands.new }
 {
     for k in 0..bands.len() {
-        finish_lane::<Q>(bands, k, cube, y, x, first, count, &lines[from + k], room);
+        finish_lane::<Q>(bands, k, rows, y, x, first, count, &lines[from + k], room);
     }
 }
 
@@ -132,7 +133,7 @@ fn finish_lanes<const Q: usize>(
 fn finish_lane<const Q: usize>(
     bands: &mut [Band],
     k: usize,
-    cube: &Cube,
+    rows: &Rows,
     y: u32,
     x: u32,
     first: usize,
@@ -140,21 +141,22 @@ fn finish_lane<const Q: usize>(
     lines: &LongLines,
     room: &FourRoom,
 )
+    requires row { rows.now.y ≡ y }
     requires pairs { Q ≤ 9 }
     requires lane { k < 4 }
     requires band { k < length bands.old }
-    requires next { IsPieceNext (slice_index_or bands.old k no_band) cube.now y x count }
+    requires next { IsPieceNext (slice_index_or bands.old k no_band) rows.now.image y x count }
     requires some { 1 ≤ count }
     requires first { IsFirstLater y x first }
     requires enough { length (slice_index_or bands.old k no_band).weights ≤ 2 * Q }
-    requires predicted { IsLongPredicted Q k (slice_index_or bands.old k no_band) cube.now y x first count lines.now.sums room.now.weights room.now.parts }
-    ensures held { HoldsPiece cube.now count (slice_index_or bands.old k no_band) (slice_index_or bands.new k no_band) }
+    requires predicted { IsLongPredicted Q k (slice_index_or bands.old k no_band) rows.now.image y x first count lines.now.sums room.now.weights room.now.parts }
+    ensures held { HoldsPiece rows.now.image count (slice_index_or bands.old k no_band) (slice_index_or bands.new k no_band) }
     ensures others { bands.new ≡ slice_set bands.old k (slice_index_or bands.new k no_band) }
 {
     let band = &mut bands[k];
     finish_band::<Q>(
         band,
-        cube,
+        rows,
         y,
         x,
         first,
@@ -169,7 +171,7 @@ fn finish_lane<const Q: usize>(
 /// Advances one to four bands by a piece side by side. Their lines are those from line `from` on.
 fn predict_four<const Q: usize>(
     bands: &mut [Band],
-    cube: &Cube,
+    rows: &Rows,
     y: u32,
     x: u32,
     count: usize,
@@ -177,58 +179,61 @@ fn predict_four<const Q: usize>(
     from: usize,
     room: &mut FourRoom,
 )
+    requires row { rows.now.y ≡ y }
     requires pairs { Q ≤ 9 }
     requires few { (1 ≤ length bands.old) × (length bands.old ≤ 4) }
-    requires ready { AreLongReady Q bands.old cube.now y x count }
+    requires ready { AreLongReady Q bands.old rows.now.image y x count }
     requires from { from + 4 ≤ 8 }
     requires lines { (b : ℕ) (s : PredictorState) → b < 4 → slice_get bands.old (min b (length bands.old - 1)) ≡ Some s
-        → AreLongLines (2 * Q) s.predictor s.band cube.now y x count (slice_index_or lines.now (from + b) no_long_lines) }
-    ensures { AllZip (HoldsPiece cube.now count) bands.old bands.new }
+        → AreLongLines (2 * Q) s.predictor s.band rows.now.image y x count (slice_index_or lines.now (from + b) no_long_lines) }
+    ensures { AllZip (HoldsPiece rows.now.image count) bands.old bands.new }
 {
     let first = first_later(y, x);
-    predict_lanes::<Q>(bands, cube, y, x, first, count, lines, from, room);
-    finish_lanes::<Q>(bands, cube, y, x, first, count, lines, from, room);
+    predict_lanes::<Q>(bands, rows, y, x, first, count, lines, from, room);
+    finish_lanes::<Q>(bands, rows, y, x, first, count, lines, from, room);
 }
 
 /// Advances four to eight bands by a piece side by side. `Q` pairs hold the components of each band.
 pub(crate) fn predict_side_by_side<const Q: usize>(
     bands: &mut [Band],
-    cube: &Cube,
+    rows: &Rows,
     y: u32,
     x: u32,
     count: usize,
     room: &mut LongRoom,
 )
+    requires row { rows.now.y ≡ y }
     requires pairs { Q ≤ 9 }
     requires few { (4 ≤ length bands.old) × (length bands.old ≤ 8) }
-    requires ready { AreLongReady Q bands.old cube.now y x count }
-    ensures { AllZip (HoldsPiece cube.now count) bands.old bands.new }
+    requires ready { AreLongReady Q bands.old rows.now.image y x count }
+    ensures { AllZip (HoldsPiece rows.now.image count) bands.old bands.new }
 {
-    fill_lanes(bands, cube, y, x, count, 2 * Q, &mut room.lines);
+    fill_lanes(bands, rows, y, x, count, 2 * Q, &mut room.lines);
     let (low, high) = bands.split_at_mut(4);
-    predict_four::<Q>(low, cube, y, x, count, &room.lines, 0, &mut room.four);
-    predict_high::<Q>(high, cube, y, x, count, &room.lines, &mut room.four);
+    predict_four::<Q>(low, rows, y, x, count, &room.lines, 0, &mut room.four);
+    predict_high::<Q>(high, rows, y, x, count, &room.lines, &mut room.four);
 }
 
 /// `predict_four` for the bands after the fourth, if there are any.
 fn predict_high<const Q: usize>(
     bands: &mut [Band],
-    cube: &Cube,
+    rows: &Rows,
     y: u32,
     x: u32,
     count: usize,
     lines: &[LongLines; 8],
     room: &mut FourRoom,
 )
+    requires row { rows.now.y ≡ y }
     requires pairs { Q ≤ 9 }
     requires few { length bands.old ≤ 4 }
-    requires ready { AreLongReady Q bands.old cube.now y x count }
+    requires ready { AreLongReady Q bands.old rows.now.image y x count }
     requires lines { (b : ℕ) (s : PredictorState) → b < 4 → slice_get bands.old (min b (length bands.old - 1)) ≡ Some s
-        → AreLongLines (2 * Q) s.predictor s.band cube.now y x count (slice_index_or lines.now (4 + b) no_long_lines) }
-    ensures { AllZip (HoldsPiece cube.now count) bands.old bands.new }
+        → AreLongLines (2 * Q) s.predictor s.band rows.now.image y x count (slice_index_or lines.now (4 + b) no_long_lines) }
+    ensures { AllZip (HoldsPiece rows.now.image count) bands.old bands.new }
 {
     if bands.is_empty() {
         return;
     }
-    predict_four::<Q>(bands, cube, y, x, count, lines, 4, room);
+    predict_four::<Q>(bands, rows, y, x, count, lines, 4, room);
 }

@@ -10,7 +10,7 @@ returns-then-predictor-clause-value c = reduced_filled _ _ _ _ _ [] _ c.if-predi
 
 pub fill_spectral-requires-else-predictor-clause-clear : goal.fill_spectral-requires-else-predictor-clause-clear
 fill_spectral-requires-else-predictor-clause-clear c =
-    full_clear c.args.predictor.now c.args.cube.now c.args.z c.args.y c.args.x c.fill_directional.new.out c.fill_directional.new.out
+    full_clear c.args.predictor.now c.args.rows.now.image c.args.z c.args.y c.args.x c.fill_directional.new.out c.fill_directional.new.out
     c.fill_directional.ensures.value
 
 pub returns-else-predictor-clause-value : goal.returns-else-predictor-clause-value

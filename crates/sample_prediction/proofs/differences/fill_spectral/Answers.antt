@@ -6,7 +6,7 @@ use Rattle.sample_prediction.proofs.differences.fill_spectral.Goals as goal
 
 pub loop-i-init : goal.loop-i-init
 loop-i-init c = record {
-  filled = filled_none c.args.predictor.now c.args.cube.now c.args.z c.args.y c.args.x c.args.first c.args.out.now c.requires.clear;
+  filled = filled_none c.args.predictor.now c.args.rows.now.image c.args.z c.args.y c.args.x c.args.first c.args.out.now c.requires.clear;
   bound = c.requires.small;
   long = c.told-out;
 }

@@ -3,5 +3,5 @@ use Rattle.sample_prediction.proofs.differences.sum_at.Goals as goal
 
 pub returns-clause-value : goal.returns-clause-value
 returns-clause-value c =
-    let upper = rw c.saturating_sub.ensures at c.row-above.ensures.samples in rw c.sum_of.ensures.value
-    (sum_of_offsets _ _ _ _ _ _ _ c.requires.place.column c.row-row.ensures.len c.row-row.ensures.samples upper c.requires.later c.requires.wide)
+    let own = rw c.requires.row at c.row-row.ensures.samples in let upper = rw c.requires.row at c.row_above-above.ensures.samples in rw c.sum_of.ensures.value
+    (sum_of_offsets _ _ _ _ _ _ _ c.requires.place.column c.row-row.ensures.len own upper c.requires.later c.requires.wide)

@@ -9,7 +9,7 @@ invariant-loop-i l = record {
   moved : MovesBy l.i l.initial.self l.self;
   held : l.self.piece ≡ l.initial.self.piece;
   long : length l.residuals ≡ length l.initial.residuals;
-  bound : (k : ℕ) → k < l.i → slice_index l.residuals k < 2 ^ l.cube.kind.bits;
-  residuals : (p : Params) → Follows p l.initial.self l.cube → take l.i l.residuals ≡ run_residuals p l.cube l.initial.self.band l.initial.self.t l.i;
-  follows : (p : Params) → Follows p l.initial.self l.cube → Follows p l.self l.cube;
+  bound : (k : ℕ) → k < l.i → slice_index l.residuals k < 2 ^ l.rows.image.kind.bits;
+  residuals : (p : Params) → Follows p l.initial.self l.rows.image → take l.i l.residuals ≡ run_residuals p l.rows.image l.initial.self.band l.initial.self.t l.i;
+  follows : (p : Params) → Follows p l.initial.self l.rows.image → Follows p l.self l.rows.image;
 }

@@ -24,7 +24,7 @@ returns-then-t-eq0-clause-residual c p f =
     let d = (goal.at.returns-then-t-eq0-clause-residual c).After-self in
     let fits : SFits w32 c.first_sample.result = search rules in let g = rw (← c.self.view_is) at f in rw (← c.self.view_is, c.if-t-eq0.true, to_z-of_z fits)
     (first_residual_put p _ c.args.cube.now _ c.args.y c.args.x _ c.first_sample.result _ (place d) c.prove_is_cube.ensures.whole (wide d p f)
-    g.made.predictor (next d) g.weights c.if-t-eq0.true c.args.delta c.first_sample.ensures.inverse)
+    g.made.predictor (next d) g.weights c.if-t-eq0.true c.args.delta (rw c.of-rows.ensures at c.first_sample.ensures.inverse))
 
 pub returns-then-t-eq0-clause-follows : goal.returns-then-t-eq0-clause-follows
 returns-then-t-eq0-clause-follows c p f =
@@ -41,13 +41,13 @@ returns-else-t-eq0-clause-residual c p f =
     let d = (goal.at.returns-else-t-eq0-clause-residual c).After-self in
     let fits : SFits w32 c.next_sample.result = search rules in let g = rw (← c.self.view_is) at f in rw (← c.self.view_is, to_z-of_z fits)
     (residual_put p _ c.args.cube.now _ c.args.y c.args.x _ c.next_sample.result _ (place d) c.prove_is_cube.ensures.whole (wide d p f)
-    g.made.predictor (next d) (rw c.self.inside.settings.count_is at g.weights) (omega arith) c.args.delta c.next_sample.ensures.inverse)
+    g.made.predictor (next d) (rw c.self.inside.settings.count_is at g.weights) (omega arith) c.args.delta (rw c.of-rows.ensures at c.next_sample.ensures.inverse))
 
 pub returns-else-t-eq0-clause-follows : goal.returns-else-t-eq0-clause-follows
 returns-else-t-eq0-clause-follows c p f =
     let d = (goal.at.returns-else-t-eq0-clause-follows c).After-self in let s = c.self.inside.settings in
     let fits : SFits w32 c.next_sample.result = search rules in let g = rw (← c.self.view_is) at f in
     let moved = weights_put p s.predictor c.args.cube.now _ c.args.y c.args.x _ c.next_sample.result _ (place d) c.prove_is_cube.ensures.whole
-    (wide d p f) g.made.predictor (next d) (rw s.count_is at g.weights) (omega arith) _ c.next_sample.ensures.weights in
+    (wide d p f) g.made.predictor (next d) (rw s.count_is at g.weights) (omega arith) _ (rw c.of-rows.ensures at c.next_sample.ensures.weights) in
     rw (← c.self.view_is, to_z-of_z fits)
     (record { made = record { predictor = g.made.predictor; shape = g.made.shape; kind = g.made.kind }; weights = rw s.count_is moved })

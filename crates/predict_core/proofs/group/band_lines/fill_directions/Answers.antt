@@ -15,10 +15,10 @@ use Rattle.predict_core.proofs.group.band_lines.fill_directions.Goals.{After-fil
 pub returns-then-y-eq0 : goal.returns-then-y-eq0
 returns-then-y-eq0 c = λ i k l h m.
     let s = c.args.settings.now in let within : i < 64 = (let f = c.requires.few in omega (arith, l, f)) in
-    let none = directional_first s.predictor c.args.cube.now s.band c.args.y (c.args.x + i) c.if-y-eq0.true in
+    let none = directional_first s.predictor c.args.rows.now.image s.band c.args.y (c.args.x + i) c.if-y-eq0.true in
     let first = c.clear.ensures in let second = c.clear-then-y-eq0.ensures in let third = c.clear-then-y-eq0-2.ensures in
     three (λ k. place c.clear-then-y-eq0-2.new.components k i
-    ≡ get_or (directional_differences s.predictor c.args.cube.now s.band c.args.y (c.args.x + i)) k (pos 0))
+    ≡ get_or (directional_differences s.predictor c.args.rows.now.image s.band c.args.y (c.args.x + i)) k (pos 0))
     (third.others 0 i (omega arith) ∙ second.others 0 i (omega arith) ∙ first.zeros i within ∙ ap (λ xs. get_or xs 0 (pos 0)) (sym none))
     (third.others 1 i (omega arith) ∙ second.zeros i within ∙ ap (λ xs. get_or xs 1 (pos 0)) (sym none))
     (third.zeros i within ∙ ap (λ xs. get_or xs 2 (pos 0)) (sym none)) k m
@@ -29,11 +29,11 @@ told_is sum offset s d out e h f g = difference_told sum offset offset s d out e
 
 -- the three directions of a place that isn't in the first column
 module _ (c : After-fill_three) (i : ℕ) (l : i < c.args.count) (h : 0 < c.args.y + (c.args.x + i)) where
-  there : IsPlace c.args.cube.now.shape c.args.settings.now.band c.args.y (c.args.x + i)
+  there : IsPlace c.args.rows.now.image.shape c.args.settings.now.band c.args.y (c.args.x + i)
   there = record { band = c.requires.place.band; row = c.requires.place.row; column = omega (arith, l, c.requires.inside) }
 
   abbrev directions : List ℤ
-  directions = directional_differences c.args.settings.now.predictor c.args.cube.now c.args.settings.now.band c.args.y (c.args.x + i)
+  directions = directional_differences c.args.settings.now.predictor c.args.rows.now.image c.args.settings.now.band c.args.y (c.args.x + i)
 
   within : i < 64
   within = let f = c.requires.few in omega (arith, l, f)
@@ -41,8 +41,8 @@ module _ (c : After-fill_three) (i : ℕ) (l : i < c.args.count) (h : 0 < c.args
   small : (k : ℕ) → k < 3 → unsigned_abs (get_or directions k (pos 0)) < 2 ^ 15
   small k m =
       let s = c.args.settings.now in
-      directional_small s.predictor c.args.cube.now c.prove_is_cube.ensures c.requires.bits s.band c.args.y (c.args.x + i) h (rw c.requires.columns s.wide) there k
-      (let e = directional_length s.predictor c.args.cube.now s.band c.args.y (c.args.x + i) in omega (arith, e, m))
+      directional_small s.predictor c.args.rows.now.image c.prove_is_row.ensures.cube c.requires.bits s.band c.args.y (c.args.x + i) h (rw c.requires.columns s.wide) there k
+      (let e = directional_length s.predictor c.args.rows.now.image s.band c.args.y (c.args.x + i) in omega (arith, e, m))
 
   inside : 0 < c.args.x + i → (k : ℕ) → k < 3 → place c.fill_three.new.components k i ≡ get_or directions k (pos 0)
   inside q =
@@ -57,7 +57,7 @@ module _ (c : After-fill_three) (i : ℕ) (l : i < c.args.count) (h : 0 < c.args
       × (place c.fill_three.new.components 0 0 ≡ get_or directions 0 (pos 0))
   first e f =
       let s = c.args.settings.now in let at : c.args.x + i ≡ c.args.x = omega (arith, f) in
-      let same = ap (λ k. directional_differences s.predictor c.args.cube.now s.band c.args.y k) at
+      let same = ap (λ k. directional_differences s.predictor c.args.rows.now.image s.band c.args.y k) at
       ∙ c.requires.lines.first_directions (let n = c.if-y-eq0.false in omega (arith, n)) e in
       let north = ap (λ xs. get_or xs 0 (pos 0)) same in
       let sum = subst (λ k. get_or c.args.sums.now k (pos 0) ≡ pos (line_sum (s.predictor.column || c.args.y == 0) c.args.lines.now.current c.args.lines.now.above k)) f

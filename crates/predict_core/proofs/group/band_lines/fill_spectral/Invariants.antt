@@ -7,7 +7,7 @@ use Rattle.predict_core.proofs.group.band_lines.fill_spectral.Given as goal
 abbrev pub invariant-loop-k : goal.invariant-loop-k
 invariant-loop-k l = record {
   done : (i j : ℕ) → i < l.count → 0 < l.y + (l.x + i) → spectral_from l.settings.predictor ≤ j → j < l.k
-      → place l.components j i ≡ lower_difference l.settings.predictor l.cube l.settings.band l.y (l.x + i) (j - spectral_from l.settings.predictor + 1);
+      → place l.components j i ≡ lower_difference l.settings.predictor l.rows.image l.settings.band l.y (l.x + i) (j - spectral_from l.settings.predictor + 1);
   others : (j i : ℕ) → j < spectral_from l.settings.predictor → place l.components j i ≡ place l.initial.components j i;
   long : length l.components ≡ 18;
 }

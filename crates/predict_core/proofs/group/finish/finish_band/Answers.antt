@@ -15,7 +15,7 @@ returns g c = record {
         kind = ap (λ v. v.kind) is;
         columns = c.band.invariant.columns ∙ ap (λ v. v.shape.columns) is ∙ sym (ap (λ v. v.columns) c.requires.next.shape);
       })) in
-      piece_held s c.args.cube.now c.args.y c.args.x c.args.count c.band.inside.weights c.finish_piece.new.weights c.args.band.now _ c.requires.next.next
+      piece_held s c.args.rows.now.image c.args.y c.args.x c.args.count c.band.inside.weights c.finish_piece.new.weights c.args.band.now _ c.requires.next.next
       (ap (λ v. v.predictor) is) (ap (λ v. v.band) is) (ap (λ v. v.weights) is) predicted (record {
         predictor = ap (λ v. v.predictor) is;
         shape = ap (λ v. v.shape) is;

@@ -22,7 +22,7 @@ small width l m = fits_signed_from_abs w16 width (omega (arith, ints, l, m))
 -- from the least offset to the greatest
 module _ (c : After-copy_offsets) where
   abbrev k : SampleKind
-  k = c.args.cube.now.kind
+  k = c.args.rows.now.image.kind
 
   abbrev span_of : ℤ
   span_of = to_z w32 (of_z w32 (to_z w32 (of_z w32 c.args.settings.now.range.smax) -ℤ to_z w32 (of_z w32 c.args.settings.now.range.smin)))
@@ -35,11 +35,11 @@ module _ (c : After-copy_offsets) where
       rw (← least, ← most) (omega (arith, ints, low.0, low.1, high.0, high.1))
 
   powers : smax k -ℤ smin k ≡ pos (2 ^ k.bits) -ℤ pos 1
-  powers = span k c.prove_is_cube.ensures.bits
+  powers = span k c.prove_is_row.ensures.cube.bits
 
   bounds : (pos 1 ≤ℤ (smax k -ℤ smin k)) × ((smax k -ℤ smin k) ≤ℤ pos 4095)
   bounds =
-      let is = c.prove_is_cube.ensures.bits in
+      let is = c.prove_is_row.ensures.cube.bits in
       let least : 2 ^ 2 ≤ 2 ^ k.bits = pow_mono is.0 in let most : 2 ^ k.bits ≤ 2 ^ 12 = pow_mono c.requires.bits in
       narrow (smax k -ℤ smin k) (2 ^ k.bits) powers least most
 
@@ -59,8 +59,8 @@ map_places-requires-clause-greatest_in c =
 pub map_places-requires-clause-offsets_in : goal.map_places-requires-clause-offsets_in
 map_places-requires-clause-offsets_in c i l =
     let d = (goal.at.map_places-requires-clause-offsets_in c).After-copy_offsets in rw (width d) (elim (cases_lt i c.args.count) [
-      | inl h ↦ rw (c.copy_offsets.ensures.written i h) (below_span c.args.cube.now.kind _ (c.row-row.ensures.samples (c.args.x + i) (omega (arith, h))).0)
-      | inr h ↦ rw (c.copy_offsets.ensures.rest i h) (below_span c.args.cube.now.kind 0 (pow_pos c.args.cube.now.kind.bits))
+      | inl h ↦ rw (c.copy_offsets.ensures.written i h) (below_span c.args.rows.now.image.kind _ ((rw c.requires.row at c.row-row.ensures.samples) (c.args.x + i) (omega (arith, h))).0)
+      | inr h ↦ rw (c.copy_offsets.ensures.rest i h) (below_span c.args.rows.now.image.kind 0 (pow_pos c.args.rows.now.image.kind.bits))
     ])
 
 pub returns-clause-bound : goal.returns-clause-bound
@@ -72,10 +72,10 @@ pub returns-clause-values : goal.returns-clause-values
 unfolding offset_number
 returns-clause-values c i within h =
     let d = (goal.at.returns-clause-values c).After-copy_offsets in let s = c.args.settings.now in
-    let k : SampleKind = c.args.cube.now.kind in let few = c.requires.few in
+    let k : SampleKind = c.args.rows.now.image.kind in let few = c.requires.few in
     let part : ℤ = get_or c.args.parts.now i (pos 0) in let sum : ℤ = get_or c.args.sums.now i (pos 0) in
     let number = rw (width d) at (c.map_places.ensures.values i (omega arith)) in
-    let sample = (c.row-row.ensures.samples (c.args.x + i) (omega (arith, within, c.requires.inside))).1 in
+    let sample = ((rw c.requires.row at c.row-row.ensures.samples) (c.args.x + i) (omega (arith, within, c.requires.inside))).1 in
     rw (c.copy_offsets.ensures.written i within) at number
     ∙ offset_mapped (smin k) (smid k) (smax k) part sum (local_sum s.predictor _ s.band _ (c.args.x + i)) (get_or c.row-row.result.now (c.args.x + i) 0)
     (c.requires.sum i within h)

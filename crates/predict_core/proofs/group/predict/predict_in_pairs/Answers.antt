@@ -17,6 +17,6 @@ returns-then-pairs-bands c =
     let end : 2 * c.loop-k.k ≡ 2 * (many / 2) = omega arith in
     let same : length c.loop-k.bands ≡ many = omega arith in
     let last : HeldUpTo _ _ (2 * (many / 2) + 1) _ _ =
-    held_step c.args.cube.now c.args.count (2 * (many / 2)) c.args.bands.now c.loop-k.bands _ c.predict_piece.new.self (omega arith)
+    held_step c.args.rows.now.image c.args.count (2 * (many / 2)) c.args.bands.now c.loop-k.bands _ c.predict_piece.new.self (omega arith)
     (rw end at c.loop-k.invariant) c.predict_piece.ensures.held in
     record { held = all_held _ _ _ _ _ last (length-set {A = PredictorState} c.loop-k.bands _ _ ∙ same) (omega arith) }

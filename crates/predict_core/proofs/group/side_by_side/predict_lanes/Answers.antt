@@ -21,20 +21,20 @@ module _ (g : given.Over) (c : After-fill_own_rows g) (none : PredictorState) (b
   there_is = let some = c.requires.few.0 in
       slice_get-get_or c.args.bands.now (min b (length c.args.bands.now - 1)) none (omega (arith, some))
 
-  told : (there.predictor ≡ c.requires.ready.predictor) × IsPieceNext there c.args.cube.now c.args.y c.args.x c.args.count
+  told : (there.predictor ≡ c.requires.ready.predictor) × IsPieceNext there c.args.rows.now.image c.args.y c.args.x c.args.count
   told = ready_at _ _ _ _ _ _ c.requires.ready (min b (length c.args.bands.now - 1)) there there_is
 
   component : (i k : ℕ) → i < c.args.count → 0 < c.args.y + (c.args.x + i) → k < 2 * g.row.Q
       → place (get_or c.fill_lanes.new.out b no_lines).components k i
-      ≡ get_or (difference_vector there.predictor c.args.cube.now there.band c.args.y (c.args.x + i)) k (pos 0)
+      ≡ get_or (difference_vector there.predictor c.args.rows.now.image there.band c.args.y (c.args.x + i)) k (pos 0)
   component i k l m n = (c.fill_lanes.ensures b there fits there_is).components i k l m n
 
   small : (i k : ℕ) → i < c.args.count → 0 < c.args.y + (c.args.x + i) → k < 2 * g.row.Q
-      → unsigned_abs (place (get_or c.fill_lanes.new.out b no_lines).components k i) < 2 ^ (c.args.cube.now.kind.bits + 2)
+      → unsigned_abs (place (get_or c.fill_lanes.new.out b no_lines).components k i) < 2 ^ (c.args.rows.now.image.kind.bits + 2)
   small i k l m n =
       let inside = told.1.inside in
       rw (component i k l m n)
-      (component_below there.predictor c.args.cube.now c.prove_is_cube.ensures there.band c.args.y (c.args.x + i) k m
+      (component_below there.predictor c.args.rows.now.image c.prove_is_row.ensures.cube there.band c.args.y (c.args.x + i) k m
       (rw told.0 c.requires.ready.wide) (record { band = told.1.place.band; row = told.1.place.row; column = omega (arith, inside, l) }))
 
 -- all lanes
@@ -43,13 +43,13 @@ module _ (g : given.Over) (c : After-fill_own_rows g) (none : PredictorState) wh
   within i l =
       let few = (told g c none 0 (omega arith)).1.few in omega (arith, l, few)
 
-  below : (i : ℕ) → c.args.first ≤ i → i < c.args.count → AreBelow (2 ^ (c.args.cube.now.kind.bits + 2)) g.row.Q c.fill_pairs.new.pairs i
+  below : (i : ℕ) → c.args.first ≤ i → i < c.args.count → AreBelow (2 ^ (c.args.rows.now.image.kind.bits + 2)) g.row.Q c.fill_pairs.new.pairs i
   below i l m =
       let later = c.requires.first.later in
-      all_below (2 ^ (c.args.cube.now.kind.bits + 2)) g.row.Q i c.fill_pairs.new.pairs
-      (λ j b n o. subst (λ v. unsigned_abs v < 2 ^ (c.args.cube.now.kind.bits + 2)) (sym (c.fill_pairs.ensures.even j i b n (within i m) o))
+      all_below (2 ^ (c.args.rows.now.image.kind.bits + 2)) g.row.Q i c.fill_pairs.new.pairs
+      (λ j b n o. subst (λ v. unsigned_abs v < 2 ^ (c.args.rows.now.image.kind.bits + 2)) (sym (c.fill_pairs.ensures.even j i b n (within i m) o))
       (small g c none b o i (2 * j) m (omega (arith, later, l)) (omega (arith, n))))
-      (λ j b n o. subst (λ v. unsigned_abs v < 2 ^ (c.args.cube.now.kind.bits + 2)) (sym (c.fill_pairs.ensures.odd j i b n (within i m) o))
+      (λ j b n o. subst (λ v. unsigned_abs v < 2 ^ (c.args.rows.now.image.kind.bits + 2)) (sym (c.fill_pairs.ensures.odd j i b n (within i m) o))
       (small g c none b o i (2 * j + 1) m (omega (arith, later, l)) (omega (arith, n))))
 
   weights_in : (b : ℕ) → b < 8 → AllWithin (2 ^ (c.requires.ready.predictor.omega + 2)) (weights_of g.row.Q b c.fill_weights.new.rows)
@@ -59,6 +59,7 @@ module _ (g : given.Over) (c : After-fill_own_rows g) (none : PredictorState) wh
 pub fill_lanes-requires : goal.fill_lanes-requires
 fill_lanes-requires g c =
     let ready = ready_at _ _ _ _ _ _ c.requires.ready in let few = c.requires.pairs in record {
+      row = c.requires.row;
       some_bands = c.requires.few.0;
       next = λ i b e. (ready i b e).1;
       alike = λ i j a b e f. (ready j b f).0 ∙ sym (ready i a e).0;
@@ -75,7 +76,7 @@ follow_band-requires g c =
     slice_get_read c.args.bands.now (length c.args.bands.now) 0 v refl (omega (arith, some)) c.index-bands-0.is in
     let first = c.requires.first.most in let one = c.requires.ready.some in
     let told = ready_at _ _ _ _ _ _ c.requires.ready 0 v at in let next = told.1 in
-    let bits : c.args.cube.now.kind.bits ≡ v.kind.bits = ap (λ k. k.bits) next.kind in
+    let bits : c.args.rows.now.image.kind.bits ≡ v.kind.bits = ap (λ k. k.bits) next.kind in
     let later = c.requires.first.later in record {
       few = few;
       order = omega (arith, first, one);
@@ -110,14 +111,14 @@ returns g c h k b e =
       begun = weights_of g.row.Q k c.fill_weights.new.rows;
       begun_is = weights.used (rw (weights.long, told.0) (c.requires.ready.enough b.band));
       followed = λ s is.
-          followed_alike s c.args.cube.now c.args.y c.args.x c.args.first c.args.count (weights_of g.row.Q k c.fill_weights.new.rows)
+          followed_alike s c.args.rows.now.image c.args.y c.args.x c.args.first c.args.count (weights_of g.row.Q k c.fill_weights.new.rows)
           (weights_of g.row.Q k c.follow_band.new.weights) (numbers_of k c.follow_band.new.parts) (get_or c.turn_back.new.lines k [])
           (λ i l. c.turn_back.ensures i k (omega (arith, count, l)) fits ∙ sym (number_at k i c.follow_band.new.parts))
-          (c.follow_band.ensures.followed k s c.args.cube.now fits
-          (lane_filled g.row.Q k s b c.args.cube.now c.args.y c.args.x c.args.count c.fill_own_rows.new.rows c.fill_pairs.new.pairs
-          (get_or c.fill_lanes.new.out k no_lines) fits c.prove_is_cube.ensures few is told.1 (rw told.0 c.requires.ready.narrow)
+          (c.follow_band.ensures.followed k s c.args.rows.now.image fits
+          (lane_filled g.row.Q k s b c.args.rows.now.image c.args.y c.args.x c.args.count c.fill_own_rows.new.rows c.fill_pairs.new.pairs
+          (get_or c.fill_lanes.new.out k no_lines) fits c.prove_is_row.ensures.cube few is told.1 (rw told.0 c.requires.ready.narrow)
           (rw told.0 (c.requires.ready.enough b.band)) (omega (arith, long)) lines (λ i l. c.fill_own_rows.ensures i k l fits)
           (λ j i l m. c.fill_pairs.ensures.even j i k l m fits) (λ j i l m. c.fill_pairs.ensures.odd j i k l m fits))
           (is.predictor ∙ same) (is.kind ∙ sym told.1.kind ∙ zero.1.kind) (is.columns ∙ ap (λ w. w.columns) zero.1.shape)
-          (followed_none s c.args.cube.now c.args.y c.args.x c.args.first (weights_of g.row.Q k c.fill_weights.new.rows) _));
+          (followed_none s c.args.rows.now.image c.args.y c.args.x c.args.first (weights_of g.row.Q k c.fill_weights.new.rows) _));
     }

@@ -30,9 +30,9 @@ fill_lane-requires-clause-before c j l =
     let other = get_or c.args.bands.now (min j (length c.args.bands.now - 1)) c.index-bands-min.result in
     let there = slice_get-get_or c.args.bands.now (min j (length c.args.bands.now - 1)) c.index-bands-min.result (inside d j) in
     let told = c.loop-i.invariant.done j other within there in let same = c.requires.alike _ _ _ _ (at d) there in
-    subst (λ l. HoldsCentral c.index-bands-min.result.predictor c.args.cube.now l.band c.args.y c.args.x c.args.count l.own) (front_at d j within)
-    (subst (λ z. HoldsCentral c.index-bands-min.result.predictor c.args.cube.now z c.args.y c.args.x c.args.count (get_or c.loop-i.out j no_long_lines).own) (sym told.band)
-    (subst (λ p. HoldsCentral p c.args.cube.now other.band c.args.y c.args.x c.args.count (get_or c.loop-i.out j no_long_lines).own) same told.own))
+    subst (λ l. HoldsCentral c.index-bands-min.result.predictor c.args.rows.now.image l.band c.args.y c.args.x c.args.count l.own) (front_at d j within)
+    (subst (λ z. HoldsCentral c.index-bands-min.result.predictor c.args.rows.now.image z c.args.y c.args.x c.args.count (get_or c.loop-i.out j no_long_lines).own) (sym told.band)
+    (subst (λ p. HoldsCentral p c.args.rows.now.image other.band c.args.y c.args.x c.args.count (get_or c.loop-i.out j no_long_lines).own) same told.own))
 
 pub fill_lane-requires-clause-lower : goal.fill_lane-requires-clause-lower
 fill_lane-requires-clause-lower c j l =
@@ -41,9 +41,9 @@ fill_lane-requires-clause-lower c j l =
     let other = get_or c.args.bands.now (min j (length c.args.bands.now - 1)) c.index-bands-min.result in
     let there = slice_get-get_or c.args.bands.now (min j (length c.args.bands.now - 1)) c.index-bands-min.result (inside d j) in
     let told = c.loop-i.invariant.done j other within there in let same = c.requires.alike _ _ _ _ (at d) there in
-    subst (λ l. HoldsComponents c.args.n c.index-bands-min.result.predictor c.args.cube.now l.band c.args.y c.args.x c.args.count l.components) (front_at d j within)
-    (subst (λ z. HoldsComponents c.args.n c.index-bands-min.result.predictor c.args.cube.now z c.args.y c.args.x c.args.count (get_or c.loop-i.out j no_long_lines).components) (sym told.band)
-    (subst (λ p. HoldsComponents c.args.n p c.args.cube.now other.band c.args.y c.args.x c.args.count (get_or c.loop-i.out j no_long_lines).components) same told.components))
+    subst (λ l. HoldsComponents c.args.n c.index-bands-min.result.predictor c.args.rows.now.image l.band c.args.y c.args.x c.args.count l.components) (front_at d j within)
+    (subst (λ z. HoldsComponents c.args.n c.index-bands-min.result.predictor c.args.rows.now.image z c.args.y c.args.x c.args.count (get_or c.loop-i.out j no_long_lines).components) (sym told.band)
+    (subst (λ p. HoldsComponents c.args.n p c.args.rows.now.image other.band c.args.y c.args.x c.args.count (get_or c.loop-i.out j no_long_lines).components) same told.components))
 
 pub loop-i-preserved : goal.loop-i-preserved
 loop-i-preserved c =
@@ -63,14 +63,14 @@ loop-i-preserved c =
             sym (get_or_from_slice_get c.args.bands.now (min c.loop-i.i (length c.args.bands.now - 1)) c.index-bands-min.result b (at d))
             ∙ get_or_from_slice_get c.args.bands.now (min c.loop-i.i (length c.args.bands.now - 1)) b b
             (subst (λ k. slice_get c.args.bands.now (min k (length c.args.bands.now - 1)) ≡ Some b) h e) in
-            subst (λ l. AreLongLines c.args.n b.predictor b.band c.args.cube.now c.args.y c.args.x c.args.count l) (sym written)
-            (subst (λ (v : PredictorState). AreLongLines c.args.n v.predictor v.band c.args.cube.now c.args.y c.args.x c.args.count c.fill_lane.new.out) same
+            subst (λ l. AreLongLines c.args.n b.predictor b.band c.args.rows.now.image c.args.y c.args.x c.args.count l) (sym written)
+            (subst (λ (v : PredictorState). AreLongLines c.args.n v.predictor v.band c.args.rows.now.image c.args.y c.args.x c.args.count c.fill_lane.new.out) same
             c.fill_lane.ensures))
         | inr n ↦
             (let within : j < c.loop-i.i = omega (arith, l, n) in
             let kept : get_or (front ++ set back 0 c.fill_lane.new.out) j no_long_lines ≡ get_or c.loop-i.out j no_long_lines =
             get_or_append_left front (set back 0 c.fill_lane.new.out) no_long_lines j (omega (arith, long, within)) ∙ sym (front_at d j within) in
-            subst (λ l. AreLongLines c.args.n b.predictor b.band c.args.cube.now c.args.y c.args.x c.args.count l) (sym kept)
+            subst (λ l. AreLongLines c.args.n b.predictor b.band c.args.rows.now.image c.args.y c.args.x c.args.count l) (sym kept)
             (c.loop-i.invariant.done j b within e))
       ];
       long = length-append front (set back 0 c.fill_lane.new.out)

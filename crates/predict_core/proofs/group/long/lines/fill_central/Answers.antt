@@ -8,7 +8,7 @@ returns-clause-sums c i l h = rw c.is_column.ensures at (c.fill_own.ensures.sums
 pub returns-clause-sums_are : goal.returns-clause-sums_are
 returns-clause-sums_are c i l h =
     let told = rw c.is_column.ensures at (c.fill_own.ensures.sums i (let f = c.requires.few in omega (arith, l, f))) in
-    ap (λ s. pos 4 *ℤ smin c.args.cube.now.kind +ℤ s) told ∙ sym (c.fill_band_lines.ensures.sum i l h)
+    ap (λ s. pos 4 *ℤ smin c.args.rows.now.image.kind +ℤ s) told ∙ sym (c.fill_band_lines.ensures.sum i l h)
 
 pub returns-clause-own_are : goal.returns-clause-own_are
 returns-clause-own_are c i l h =

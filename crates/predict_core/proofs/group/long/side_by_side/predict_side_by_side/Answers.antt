@@ -24,7 +24,7 @@ predict_four-requires-clause-lines g c b s l e =
     let first : min b (length bands - 1) ≡ b = omega (arith, few, l) in
     let told = c.fill_lanes.ensures b s (omega (arith, l)) (subst (λ k. slice_get bands k ≡ Some s) (sym first) at) in
     let none : b ≡ 0 + b = omega arith in
-    subst (λ k. AreLongLines (2 * g.row.Q) s.predictor s.band c.args.cube.now c.args.y c.args.x c.args.count (slice_index_or c.fill_lanes.new.out k no_long_lines)) none told
+    subst (λ k. AreLongLines (2 * g.row.Q) s.predictor s.band c.args.rows.now.image c.args.y c.args.x c.args.count (slice_index_or c.fill_lanes.new.out k no_long_lines)) none told
 
 pub predict_high-requires-clause-lines : goal.predict_high-requires-clause-lines
 predict_high-requires-clause-lines g c b s l e =
