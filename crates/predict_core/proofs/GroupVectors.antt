@@ -1,5 +1,5 @@
 -- Weights and components in rows of pairs, as whole lists.
-use Rattle.std.proofs.Common.{◌≡◌, ℕ, zero, suc, ◌+◌, ◌*◌, ◌<◌, ◌≤◌, ℤ, pos, List, [], ◌∷◌, length, take, get_or, set, refl, sym, ap, ap₂, ◌∙◌, ◌^◌, subst, arith}
+use Rattle.std.proofs.Common.{◌≡◌, ℕ, zero, suc, ◌+◌, ◌*◌, ◌<◌, ◌≤◌, ℤ, pos, List, [], ◌∷◌, length, map, take, get_or, set, refl, sym, ap, ap₂, ◌∙◌, ◌^◌, subst, arith}
 use Rattle.std.specs.List.{flat_map}
 use Rattle.std.proofs.lemmas.List.{length-take-le}
 use Rattle.sample_prediction.proofs.Inner.{within_take}
@@ -40,6 +40,13 @@ pub components_are : (q b i : ℕ) (pairs : List Pairs) (vs : List ℤ) → q �
     → components_of q b pairs i ≡ take (2 * q) vs
 unfolding components_of
 components_are q b i pairs vs = pairs_are (λ (r : Pairs). lane (row_at r i) (2 * b)) (λ (r : Pairs). lane (row_at r i) (2 * b + 1)) no_pairs q pairs vs
+
+-- the components at a place are in the rows of that place as weights are in theirs
+pub components_at : (n b i : ℕ) (pairs : List Pairs) → components_of n b pairs i ≡ weights_of n b (map (λ (q : Pairs). row_at q i) pairs)
+unfolding weights_of components_of
+components_at zero b i pairs = refl
+components_at (suc n) b i [] = refl
+components_at (suc n) b i (p ∷ ps) = ap (λ ys. lane (row_at p i) (2 * b) ∷ lane (row_at p i) (2 * b + 1) ∷ ys) (components_at n b i ps)
 
 -- a band's weights are the same in rows that hold the same in its lane
 pub weights_same : (q b : ℕ) (rows others : List (List ℤ)) → length rows ≡ length others

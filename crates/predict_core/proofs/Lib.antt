@@ -2,6 +2,7 @@ pub mod Chains
 pub mod Following
 pub mod GroupFilled
 pub mod GroupLanes
+pub mod LanePlaces
 pub mod GroupLines
 pub mod GroupPieces
 pub mod GroupRuns

@@ -1,10 +1,9 @@
 -- One place of a band's chain in its lane of 32 bits.
-use Rattle.std.proofs.Common.{◌≡◌, ℕ, zero, suc, ◌+◌, ◌-◌, ◌*◌, ◌^◌, ◌<◌, ◌≤◌, ℤ, pos, ◌+ℤ◌, ◌-ℤ◌, ◌*ℤ◌, int_le, unsigned_abs, List, [], ◌∷◌, false}
-use Rattle.std.proofs.Common.{◌++◌, length, take, drop, get_or, set, replicate, slice_get, Some, refl, sym, ap, ap₂, ◌∙◌, subst, arith, lt_of_lt_of_le, length-append}
+use Rattle.std.proofs.Common.{◌≡◌, ℕ, zero, suc, ◌+◌, ◌-◌, ◌*◌, ◌^◌, ◌<◌, ◌≤◌, ℤ, pos, ◌+ℤ◌, int_le, unsigned_abs, List, [], ◌∷◌, false}
+use Rattle.std.proofs.Common.{◌++◌, length, take, drop, get_or, set, replicate, slice_get, Some, refl, sym, ap, ap₂, ◌∙◌, subst, arith, length-append, inl}
 use Rattle.std.specs.List.{AllByRecursion}
 use Rattle.std.proofs.Math.Pow.{pow-add}
 use Rattle.std.proofs.lemmas.List.{take_all, take-take, length-replicate, length-take-le}
-use Rattle.cube_core.specs.Kind.{smid}
 use Rattle.cube_core.specs.Image.{Image, IsCube, IsPlace}
 use Rattle.header_bits.specs.declared.params.Params.{Params}
 use Rattle.lanes.specs.Lanes.{place}
@@ -20,7 +19,7 @@ use Rattle.predict_core.specs.Largest.{NeverWraps}
 use Rattle.predict_core.specs.LongRooms.{AreLongReady}
 use Rattle.band_lanes.specs.Fours.{no_rows, row_components}
 use Rattle.predict_core.specs.RunChains.{IsFollowed, AreStepsThere}
-use Rattle.sample_prediction.specs.Arithmetic.{floor_div, wrapped}
+use Rattle.sample_prediction.specs.Arithmetic.{floor_div}
 use Rattle.sample_prediction.specs.Bounds.{AllWithin}
 use Rattle.sample_prediction.specs.Chain.{AreWeightsAt, scaled_by_difference}
 use Rattle.sample_prediction.specs.Differences.{central_difference, difference_vector}
@@ -28,15 +27,10 @@ use Rattle.sample_prediction.specs.LocalSum.{local_sum}
 use Rattle.sample_prediction.specs.Predictor.{component_count}
 use Rattle.sample_prediction.specs.Prediction.{inner_product, scaled_there, scaled_prediction, next_weights}
 use Rattle.sample_prediction.specs.Weights.{step_exponent, updated_weights}
-use Rattle.sample_prediction.proofs.Floors.{kept}
-use Rattle.sample_prediction.proofs.Inner.{within_take}
 use Rattle.sample_prediction.proofs.Padding.{vector_length}
-use Rattle.sample_prediction.proofs.Predicted.{of_product}
-use Rattle.sample_prediction.proofs.Prefixes.{product_in_use, update_in_use}
+use Rattle.sample_prediction.proofs.Inner.{within_take}
 use Rattle.predict_core.proofs.GroupFilled.{padded_at, all_at}
-use Rattle.predict_core.proofs.GroupLanes.{updated_short}
-use Rattle.predict_core.proofs.Largest.{sum_counted}
-use Rattle.predict_core.proofs.Links.{next_by_difference}
+use Rattle.predict_core.proofs.LanePlaces.{place_scaled, place_next}
 use Rattle.predict_core.proofs.Ranges.{padded_within}
 use Rattle.predict_core.proofs.Runs.{written_place, weights_next, part_is}
 
@@ -150,64 +144,21 @@ module _ (q b : ℕ) (s : Settings) (c : Image) (y x count i : ℕ) (own : List 
   at : IsPlace c.shape s.band y (x + i)
   at = record { band = there.place.band; row = there.place.row; column = (let h = there.inside in omega (arith, inside, h)) }
 
-  wide : s.predictor.column ≡ false → 2 ≤ c.shape.columns
-  wide = rw there.columns s.wide
-
-  abbrev us : List ℤ
-  us = difference_vector s.predictor c s.band y (x + i)
-
-  abbrev sum : ℤ
-  sum = local_sum s.predictor c s.band y (x + i)
-
-  us_long : length us ≡ s.count
-  us_long = vector_length s.predictor c s.band y (x + i) ∙ sym s.count_is
-
-  abbrev rest : ℕ
-  rest = 2 * q - s.count
-
-  all_long : length (us ++ replicate rest (pos 0)) ≤ 2 * q
-  all_long =
-      let e = length-append us (replicate rest (pos 0)) in let f = length-replicate rest (pos 0) in let g = us_long in let h = there.enough in
-      omega (arith, e, f, g, h)
-
-  vector : row_components (2 * q) b rows i ≡ us ++ replicate rest (pos 0)
-  vector = there.vector i inside later
-
-  product : inner_product ws (row_components (2 * q) b rows i) ≡ inner_product (take s.count ws) us
-  product =
-      product_in_use ws us s.count (2 * q) rest (inner_product ws (row_components (2 * q) b rows i)) us_long there.enough (let h = there.enough in omega (arith, h))
-      (ap₂ inner_product (sym (take_all (2 * q) ws (omega (arith, long)))) (vector ∙ sym (take_all (2 * q) (us ++ replicate rest (pos 0)) all_long)))
-
-  unwrapped : wrapped s.predictor.register (inner_product (take s.count ws) us +ℤ pos (2 ^ s.predictor.omega) *ℤ (sum -ℤ pos 4 *ℤ smid c.kind))
-      ≡ inner_product (take s.count ws) us +ℤ pos (2 ^ s.predictor.omega) *ℤ (sum -ℤ pos 4 *ℤ smid c.kind)
-  unwrapped =
-      let r = there.register in
-      let small = sum_counted s.predictor c s.band y (x + i) (take s.count ws) there.cube at later wide s.lawful.few s.lawful.omega.1
-      (within_take (2 ^ (s.predictor.omega + 2)) s.count ws within) in
-      kept s.predictor.register _ (let some = s.lawful.register.0 in omega (arith, some)) (lt_of_lt_of_le small (rw (← s.count_is) r))
-
   -- the scaled prediction comes from the part
-  pub long_scaled : scaled_there s.predictor c s.band y (x + i) (take s.count ws) ≡ scaled_by_difference c.kind part sum
-  unfolding scaled_there
+  long_scaled : scaled_there s.predictor c s.band y (x + i) (take s.count ws) ≡ scaled_by_difference c.kind part (local_sum s.predictor c s.band y (x + i))
   long_scaled =
-      of_product s.predictor c.kind sum (floor_div (inner_product (take s.count ws) us) (2 ^ s.predictor.omega)) (take s.count ws) us unwrapped refl
-      ∙ ap (λ v. scaled_by_difference c.kind v sum) (ap (λ v. floor_div v (2 ^ s.predictor.omega)) (sym product) ∙ sym part_found)
+      place_scaled q s c y (x + i) there.cube at later there.columns there.enough there.register (row_components (2 * q) b rows i)
+      (there.vector i inside later) ws long within part (inl part_found)
 
   -- and so do the next weights
-  pub long_next : (new : List ℤ) (omega : ℕ) (exponent at : ℤ) → omega ≡ s.predictor.omega
+  long_next : (new : List ℤ) (omega : ℕ) (exponent at : ℤ) → omega ≡ s.predictor.omega
       → exponent ≡ step_exponent s.predictor c.shape.columns c.kind.bits (y * c.shape.columns + (x + i))
       → at ≡ central_difference s.predictor c s.band y (x + i)
       → new ≡ updated_weights omega exponent (int_le at part) ws (row_components (2 * q) b rows i)
       → take s.count new ≡ next_weights s.predictor c s.band (y * c.shape.columns + (x + i)) (take s.count ws)
-  long_next new fraction exponent own_at same e own_is h =
-      next_by_difference s.predictor c s.band y (x + i) (take s.count ws) there.cube at (take s.count new) own_at part own_is long_scaled
-      (update_in_use s.predictor.omega exponent (int_le own_at part) ws us new s.count (2 * q) rest us_long there.enough (let h = there.enough in omega (arith, h))
-      (ap (take (2 * q)) (h ∙ ap₂ (λ f u. updated_weights f exponent (int_le own_at part) ws u) same vector)
-      ∙ take_all (2 * q) (updated_weights s.predictor.omega exponent (int_le own_at part) ws (us ++ replicate rest (pos 0)))
-      (let l = updated_short s.predictor.omega exponent (int_le own_at part) ws (us ++ replicate rest (pos 0)) in omega (arith, l, long))
-      ∙ ap₂ (updated_weights s.predictor.omega exponent (int_le own_at part)) (sym (take_all (2 * q) ws (omega (arith, long))))
-      (sym (take_all (2 * q) (us ++ replicate rest (pos 0)) all_long)))
-      ∙ ap (λ e. updated_weights s.predictor.omega e (int_le own_at part) (take s.count ws) us) e)
+  long_next =
+      place_next q s c y (x + i) there.cube at later there.columns there.enough there.register (row_components (2 * q) b rows i)
+      (there.vector i inside later) ws long within part (inl part_found)
 
   -- one place more
   pub long_followed : (new parts : List ℤ) (omega bits start : ℕ) (begun : List ℤ) (exponent at : ℤ) → i < length parts

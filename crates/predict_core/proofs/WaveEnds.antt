@@ -9,21 +9,19 @@ use Rattle.band_lanes.specs.Rows.{weights_of}
 use Rattle.sample_prediction.specs.Chain.{AreWeightsAt}
 use Rattle.sample_prediction.specs.Prediction.{weight_vector}
 use Rattle.predict_core.specs.declared.settings.Settings.{Settings}
-use Rattle.predict_core.specs.declared.wave.room.WeightRows.{WeightRows}
 use Rattle.predict_core.specs.Inversion.{number_at}
-use Rattle.predict_core.specs.Wave.{kept_rows}
 use Rattle.predict_core.specs.WaveLanes.{AreInStep, column_at, first_column, first_step}
 use Rattle.predict_core.specs.WaveTiles.{ended, end_column, rows_at_end}
 
 -- what holds of the rows that were kept for a lane, or else of the last ones
-pub at_end : (P : List (List ℤ) → Type 0) (lanes b : ℕ) (ends : List WeightRows) (weights : List (List ℤ)) → (b < lanes → P (kept_rows ends b)) → (lanes ≤ b → P weights)
+pub at_end : (P : List (List ℤ) → Type 0) (lanes b : ℕ) (ends : ℕ → List (List ℤ)) (weights : List (List ℤ)) → (b < lanes → P (ends b)) → (lanes ≤ b → P weights)
     → P (rows_at_end lanes ends weights b)
 at_end P lanes b ends weights kept left = elim (cases_lt b lanes) [
   | inl before ↦ subst P (kept_at_end before) (kept before)
   | inr after ↦ subst P (left_at_end after) (left after)
 ]
   where
-    kept_at_end : b < lanes → kept_rows ends b ≡ rows_at_end lanes ends weights b
+    kept_at_end : b < lanes → ends b ≡ rows_at_end lanes ends weights b
     kept_at_end h = grind (arith, nat_tests, h)
 
     left_at_end : lanes ≤ b → weights ≡ rows_at_end lanes ends weights b
@@ -53,10 +51,10 @@ module _ {q : ℕ} {p : Params} {s : ℕ → Settings} {d : Image} {first y orig
       → place numbers i b ≡ pos (number_at d (first + b) y (column_at origin i b))
   offsets_found b i fits low high right = now.offsets i b (omega (arith, low)) high fits (omega (arith, low)) (omega (arith, right, same))
 
-  pub weights_found : (ends : List WeightRows) (b n : ℕ) → b < 8 → origin + 2 ≤ columns → (s b).count ≡ n
+  pub weights_found : (ends : ℕ → List (List ℤ)) (b n : ℕ) → b < 8 → origin + 2 ≤ columns → (s b).count ≡ n
       → (b < last - (last - ended columns origin last) → column_at origin (last - ended columns origin last + b) b < d.shape.columns
       → AreWeightsAt p (s b).predictor d (first + b) (y * d.shape.columns + column_at origin (last - ended columns origin last + b) b)
-      (take (s b).count (weights_of q b (kept_rows ends b))))
+      (take (s b).count (weights_of q b (ends b))))
       → take n (weights_of q b (rows_at_end (ended columns origin last) ends weights b))
       ≡ weight_vector p d (first + b) (y * columns + end_column columns origin last b)
   weights_found ends b n fits inside many kept =
@@ -64,7 +62,7 @@ module _ {q : ℕ} {p : Params} {s : ℕ → Settings} {d : Image} {first y orig
       (ended columns origin last) b ends weights
       (λ before.
       let at = ends_there columns origin last b before inside fits in
-      ap (λ (n : ℕ). take n (weights_of q b (kept_rows ends b))) (sym many) ∙ (kept (omega (arith, before, inside)) (omega (arith, at, inside, same))).weights
+      ap (λ (n : ℕ). take n (weights_of q b (ends b))) (sym many) ∙ (kept (omega (arith, before, inside)) (omega (arith, at, inside, same))).weights
       ∙ ap₂ (λ (n x : ℕ). weight_vector p d (first + b) (y * n + x)) (sym same) at)
       (λ after.
       let at = ends_before columns origin last b after (omega (arith, inside)) in

@@ -1,22 +1,21 @@
 -- The form of a wavefront, for images of one shape and kind.
-use Rattle.std.proofs.Common.{◌≡◌, ◌<◌, ℕ, List, ◌∙◌, sym, ap, subst}
+use Rattle.std.proofs.Common.{◌≡◌, ◌<◌, ℕ, List, ◌∙◌, sym, ap}
 use Rattle.cube_core.specs.Shape.{Sizes}
 use Rattle.cube_core.specs.Kind.{SampleKind}
 use Rattle.cube_core.specs.Image.{Image}
 use Rattle.header_bits.specs.declared.params.Params.{Params}
 use Rattle.sample_prediction.specs.declared.predictor.Predictor.{Predictor}
-use Rattle.predict_core.specs.declared.wave.form.Form.{Form}
 use Rattle.predict_core.specs.Following.{PredictorState}
-use Rattle.predict_core.specs.GroupLanes.{IsNarrow}
 use Rattle.predict_core.specs.Inversion.{IsInverting, band_at}
 use Rattle.predict_core.specs.Precedence.{AreAlike}
+use Rattle.predict_core.specs.WaveForms.{WaveForm}
 use Rattle.predict_core.specs.WaveTiles.{IsFormOf}
 
-pub form_same : {f : Form} {m : Predictor} {c : Image} {y : ℕ} (d : Image) → AreAlike c d → IsFormOf f m c y → IsFormOf f m d y
+pub form_same : {f : WaveForm} {m : Predictor} {c : Image} {y : ℕ} (d : Image) → AreAlike c d → IsFormOf f m c y → IsFormOf f m d y
 form_same {f} {m} {c} {y} d alike form =
     let bits = ap (λ (k : SampleKind). k.bits) alike.kind in
     let columns = ap (λ (s : Sizes). s.columns) alike.shape in record {
-      narrow = subst (IsNarrow m) bits form.narrow;
+      register = rw bits at form.register;
       enough = form.enough;
       reduced = form.reduced;
       column = form.column;

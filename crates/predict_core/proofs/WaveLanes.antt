@@ -5,13 +5,12 @@ use Rattle.std.proofs.lemmas.Nat.{mul-le}
 use Rattle.std.proofs.lemmas.Bool.{cases_lt, cases_Bool, cases_eq}
 use Rattle.std.proofs.lemmas.Bool.Decides.{nat_tests}
 use Rattle.std.proofs.lemmas.Int.{ints, clamps}
-use Rattle.std.proofs.lemmas.List.{length-append, length-replicate, get_or-replicate, take_all}
-use Rattle.cube_core.specs.Kind.{smin, smax, smid}
+use Rattle.std.proofs.lemmas.List.{length-append, length-replicate, take_all}
+use Rattle.cube_core.specs.Kind.{SampleKind, smin, smax, smid}
 use Rattle.cube_core.specs.Image.{Image, IsCube, IsPlace, sample_at}
 use Rattle.header_bits.specs.declared.params.Params.{Params}
-use Rattle.lanes.specs.Lanes.{place, held}
-use Rattle.band_lanes.specs.declared.pairs.Pairs.{Pairs}
-use Rattle.band_lanes.specs.Rows.{weights_of, components_of, held_difference}
+use Rattle.lanes.specs.Lanes.{place}
+use Rattle.band_lanes.specs.Rows.{weights_of}
 use Rattle.band_lanes.proofs.Rows.{weights_long}
 use Rattle.sample_prediction.specs.Arithmetic.{floor_div, clip}
 use Rattle.sample_prediction.specs.Bounds.{AllWithin}
@@ -24,20 +23,19 @@ use Rattle.sample_prediction.specs.declared.predictor.Predictor.{Predictor}
 use Rattle.sample_prediction.proofs.OneSample.{sample_back}
 use Rattle.sample_prediction.proofs.Padding.{vector_length}
 use Rattle.predict_core.specs.declared.settings.Settings.{Settings}
-use Rattle.predict_core.specs.declared.wave.form.Form.{Form}
-use Rattle.predict_core.specs.GroupLanes.{IsLane}
 use Rattle.predict_core.specs.Inversion.{number_at}
 use Rattle.predict_core.specs.Rooms.{lower_difference}
 use Rattle.predict_core.specs.RunChains.{AreStepsThere}
 use Rattle.predict_core.specs.Wave.{sum_by, sum_at, component_in, lagged_in}
+use Rattle.predict_core.specs.WaveForms.{WaveForm}
 use Rattle.predict_core.specs.WaveLanes.{AreLanes, AreInStep, column_at}
-use Rattle.predict_core.specs.WaveSteps.{IsStepped, offset_by}
+use Rattle.predict_core.specs.WaveSteps.{IsStepped, IsPart, offset_by}
 use Rattle.predict_core.proofs.Coded.{number_is}
 use Rattle.predict_core.proofs.Following.{follows_by, residual_by}
 use Rattle.predict_core.proofs.GroupFilled.{padded_at}
-use Rattle.predict_core.proofs.GroupLanes.{lane_scaled, lane_next}
 use Rattle.predict_core.proofs.GroupLines.{reduced_at, direction_at, full_at, three}
-use Rattle.predict_core.proofs.GroupVectors.{components_are}
+use Rattle.predict_core.proofs.GroupVectors.{weights_are}
+use Rattle.predict_core.proofs.LanePlaces.{place_scaled, place_next}
 use Rattle.predict_core.proofs.Numbers.{offset_mapped}
 use Rattle.predict_core.proofs.Quads.{lower_none}
 use Rattle.predict_core.proofs.Ranges.{sample_within}
@@ -116,7 +114,7 @@ offset_found d z y x greatest part sum whole delta cube there top is number =
 -- ---- a component of a lane
 
 -- the place of a lane that has begun, in a step up to its last column but one
-module _ {q : ℕ} {f : Form} {p : Params} {s : ℕ → Settings} {d : Image} {first y origin last n : ℕ} {above lower numbers own weights : List (List ℤ)}
+module _ {q : ℕ} {f : WaveForm} {p : Params} {s : ℕ → Settings} {d : Image} {first y origin last n : ℕ} {above lower numbers own weights : List (List ℤ)}
     (lanes : AreLanes q f p s d first y origin last above lower) (k : ℕ) (step : (8 ≤ k) × (k < last)) (begun : (n ≤ 8) × (n + 7 ≤ origin + k))
     (now : AreInStep q p s d first y origin last n k numbers own weights) (b : ℕ) (mine : b < n) (right : column_at origin k b + 1 < d.shape.columns) where
   abbrev x : ℕ
@@ -239,25 +237,28 @@ module _ {q : ℕ} {f : Form} {p : Params} {s : ℕ → Settings} {d : Image} {f
     ]
 
   -- what the step makes
-  module _ {pairs : List Pairs} {numbers' own' weights' : List (List ℤ)} (stepped : IsStepped q f k above lower numbers own weights pairs numbers' own' weights')
-      (few : f.previous ≤ 7) (long : length weights ≡ 9) (within : AllWithin (2 ^ (f.step.omega + 2)) (weights_of q b weights)) where
+  module _ {numbers' own' weights' : List (List ℤ)} (stepped : IsStepped q f k above lower numbers own weights numbers' own' weights')
+      (few : f.previous ≤ 7) (long : length weights ≡ 9) (within : AllWithin (2 ^ (f.omega + 2)) (weights_of q b weights)) where
     abbrev ws : List ℤ
     ws = weights_of q b weights
 
     ws_long : length ws ≡ 2 * q
     ws_long = weights_long q b weights (let most = lanes.few in omega (arith, long, most))
 
+    abbrev components : List ℤ
+    components = weights_of q b stepped.components
+
     abbrev rest : ℕ
     rest = 2 * q - (s b).count
 
-    vector_is : components_of q b pairs 0 ≡ vector ++ replicate rest (pos 0)
+    vector_is : components ≡ vector ++ replicate rest (pos 0)
     vector_is =
         let size : length vector ≡ (s b).count = vector_length (s b).predictor d z y x ∙ sym (rw band at (s b).count_is) in
         let enough = lanes.enough b fits in
         let long_vector : length (vector ++ replicate rest (pos 0)) ≡ 2 * q =
         omega (arith, length-append vector (replicate rest (pos 0)), length-replicate rest (pos 0), size, enough) in
         let told = component_told stepped.directions (stepped.north b fits) (stepped.west b fits) (stepped.north_west b fits) in
-        components_are q b 0 pairs (vector ++ replicate rest (pos 0)) (let most = lanes.few in omega (arith, stepped.long, most)) (omega (arith, long_vector))
+        weights_are q b stepped.components (vector ++ replicate rest (pos 0)) (let most = lanes.few in omega (arith, stepped.long, most)) (omega (arith, long_vector))
         (λ j l. stepped.even j b l fits ∙ told (2 * j) few ∙ sym (padded_at vector rest (2 * j)))
         (λ j l. stepped.odd j b l fits ∙ told (2 * j + 1) few ∙ sym (padded_at vector rest (2 * j + 1)))
         ∙ take_all (2 * q) (vector ++ replicate rest (pos 0)) (omega (arith, long_vector))
@@ -265,48 +266,33 @@ module _ {q : ℕ} {f : Form} {p : Params} {s : ℕ → Settings} {d : Image} {f
     abbrev central : ℤ
     central = central_difference (s b).predictor d z y x
 
-    one : x + 0 ≡ x
-    one = omega arith
-
-    lane_is : IsLane q b (s b) d y x 1 (replicate 8 central ∷ []) pairs
-    lane_is = record {
-      cube = lanes.cube;
-      place = rw band there;
-      columns = lanes.columns b fits;
-      kind = lanes.kind b fits;
-      inside = omega (arith, right);
-      few = lanes.few;
-      enough = lanes.enough b fits;
-      register = lanes.register b fits;
-      omega_in = rw made lanes.omega_in;
-      bits = lanes.bits;
-      central = λ i l later. let zero : i ≡ 0 = omega (arith, l) in rw (zero, one, band) (get_or-replicate 8 b central (pos 0) fits);
-      vector = λ i l later. let zero : i ≡ 0 = omega (arith, l) in rw (zero, one, band) vector_is;
-    }
-
     abbrev t : ℕ
     t = y * d.shape.columns + x
 
     abbrev part : ℤ
-    part = held_difference q b f.step.omega weights pairs 0
+    part = stepped.part b
 
-    later : 0 < y + (x + 0)
-    later = omega (arith, left)
-
-    first_step : AreStepsThere (s b) d f.step.omega f.step.bits f.step.exponent y x
+    first_step : AreStepsThere (s b) d f.omega f.bits f.exponent y x
     first_step = lanes.steps b k fits (omega (arith, right))
 
     ws_within : AllWithin (2 ^ ((s b).predictor.omega + 2)) ws
     ws_within = subst (λ (n : ℕ). AllWithin (2 ^ (n + 2)) ws) first_step.omega_is within
 
-    part_is : part ≡ held (floor_div (inner_product ws (components_of q b pairs 0)) (2 ^ (s b).predictor.omega))
-    part_is = ap (λ (n : ℕ). held (floor_div (inner_product ws (components_of q b pairs 0)) (2 ^ n))) first_step.omega_is
+    bits_are : f.bits ≡ d.kind.bits
+    bits_are = first_step.bits_are ∙ (s b).range.bits_is ∙ ap (λ (n : SampleKind). n.bits) (sym (lanes.kind b fits))
+
+    predicted : IsPart d.kind.bits (floor_div (inner_product ws components) (2 ^ (s b).predictor.omega)) part
+    predicted = rw (← bits_are, ← first_step.omega_is) (stepped.predicted b fits)
 
     abbrev whole : ℤ
     whole = local_sum (s b).predictor d z y x
 
+    there_banded : IsPlace d.shape (s b).band y x
+    there_banded = rw band there
+
     scaled : scaled_there (s b).predictor d z y x (take (s b).count ws) ≡ scaled_by_difference d.kind part whole
-    scaled = rw (one, band) at (lane_scaled q b (s b) d y x 1 0 (replicate 8 central ∷ []) pairs lane_is (omega arith) later ws ws_long ws_within part part_is)
+    scaled = rw band at (place_scaled q (s b) d y x lanes.cube there_banded (omega (arith, left)) (lanes.columns b fits) (lanes.enough b fits)
+        (lanes.register b fits) components (rw band vector_is) ws ws_long ws_within part predicted)
 
     after_start : 0 < t
     after_start = let row = mul-le 1 1 y d.shape.columns lanes.row.0 (omega (arith, right)) in omega (arith, row)
@@ -332,27 +318,27 @@ module _ {q : ℕ} {f : Form} {p : Params} {s : ℕ → Settings} {d : Image} {f
     weights_next : take (s b).count (weights_of q b weights') ≡ weight_vector p d z (t + 1)
     weights_next =
         let at = now.weights_at b mine (omega (arith, right)) in
-        let next = lane_next q b (s b) d y x 1 0 (replicate 8 central ∷ []) pairs lane_is (omega arith) later ws ws_long ws_within part part_is
-        (weights_of q b weights') f.step.omega f.step.exponent (place own' k b) first_step.omega_is (rw one first_step.exponent_is)
-        (rw (one, band) central_is) (stepped.updated b fits) in
+        let next = place_next q (s b) d y x lanes.cube there_banded (omega (arith, left)) (lanes.columns b fits) (lanes.enough b fits) (lanes.register b fits)
+        components (rw band vector_is) ws ws_long ws_within part predicted (weights_of q b weights') f.omega f.exponent (place own' k b) first_step.omega_is
+        first_step.exponent_is (rw band central_is) (stepped.updated b fits) in
         follows_by p (s b).predictor d z t y x (take (s b).count ws) at.predictor after_start refl there.column at.weights
-        (take (s b).count (weights_of q b weights')) (rw (one, band) at next)
+        (take (s b).count (weights_of q b weights')) (rw band at next)
 
 -- ---- one step more, in all lanes
 
-pub step_more : {q : ℕ} {f : Form} {p : Params} {s : ℕ → Settings} {d : Image} {first y origin last n k : ℕ}
-    {above lower numbers own weights numbers' own' weights' : List (List ℤ)} {pairs : List Pairs} → AreLanes q f p s d first y origin last above lower
-    → (8 ≤ k) × (k < last) → (n ≤ 8) × (n + 7 ≤ origin + k) → IsStepped q f k above lower numbers own weights pairs numbers' own' weights' → length weights ≡ 9
-    → ((b : ℕ) → b < 8 → AllWithin (2 ^ (f.step.omega + 2)) (weights_of q b weights))
+pub step_more : {q : ℕ} {f : WaveForm} {p : Params} {s : ℕ → Settings} {d : Image} {first y origin last n k : ℕ}
+    {above lower numbers own weights numbers' own' weights' : List (List ℤ)} → f.previous ≤ 7 → AreLanes q f p s d first y origin last above lower
+    → (8 ≤ k) × (k < last) → (n ≤ 8) × (n + 7 ≤ origin + k) → IsStepped q f k above lower numbers own weights numbers' own' weights' → length weights ≡ 9
+    → ((b : ℕ) → b < 8 → AllWithin (2 ^ (f.omega + 2)) (weights_of q b weights))
     → AreInStep q p s d first y origin last n k numbers own weights → AreInStep q p s d first y origin last n (k + 1) numbers' own' weights'
-step_more {q} {f} {p} {s} {d} {first} {y} {origin} {last} {n} {k} {numbers = numbers} {own = own} {numbers' = numbers'} {own' = own'} lanes step begun stepped long within now = record {
+step_more {q} {f} {p} {s} {d} {first} {y} {origin} {last} {n} {k} {numbers = numbers} {own = own} {numbers' = numbers'} {own' = own'} near lanes step begun stepped long within now = record {
   offsets = λ i b low high mine left right. elim (cases_eq i k) [
-    | inl here ↦ rw here (offset_is lanes k step begun now b mine (rw here at right) stepped f.previous_in long (within b (omega (arith, mine, begun.0))))
+    | inl here ↦ rw here (offset_is lanes k step begun now b mine (rw here at right) stepped near long (within b (omega (arith, mine, begun.0))))
     | inr apart ↦ stepped.numbers_kept i b apart ∙ now.offsets i b low (omega (arith, high, apart)) mine left right
   ];
   residuals = λ i b low high fits left right. stepped.numbers_kept i b (λ e. omega (arith, e, low)) ∙ now.residuals i b (omega (arith, low)) high fits left right;
   centrals = λ i b low high mine left right. elim (cases_eq i k) [
-    | inl here ↦ rw here (central_is lanes k step begun now b mine (rw here at right) stepped f.previous_in long (within b (omega (arith, mine, begun.0)))
+    | inl here ↦ rw here (central_is lanes k step begun now b mine (rw here at right) stepped near long (within b (omega (arith, mine, begun.0)))
         ∙ ap (λ (m : Predictor). central_difference m d (first + b) y (column_at origin k b)) (lanes.predictor b (omega (arith, mine, begun.0))))
     | inr apart ↦ stepped.own_kept i b apart ∙ now.centrals i b low (omega (arith, high, apart)) mine left right
   ];
@@ -360,7 +346,7 @@ step_more {q} {f} {p} {s} {d} {first} {y} {origin} {last} {n} {k} {numbers = num
       let next : column_at origin (k + 1) b ≡ column_at origin k b + 1 = omega (arith, mine, begun.1) in
       let right : column_at origin k b + 1 < d.shape.columns = omega (arith, next, bound) in record {
         predictor = (now.weights_at b mine (omega (arith, right))).predictor;
-        weights = weights_next lanes k step begun now b mine right stepped f.previous_in long (within b (omega (arith, mine, begun.0)))
+        weights = weights_next lanes k step begun now b mine right stepped near long (within b (omega (arith, mine, begun.0)))
             ∙ ap (weight_vector p d (first + b)) (next_time (y * d.shape.columns) b next);
       };
 }

@@ -18,11 +18,11 @@ use Rattle.sample_prediction.specs.Residual.{mapped_residual}
 use Rattle.sample_prediction.specs.Weights.{step_exponent}
 use Rattle.sample_prediction.specs.declared.predictor.Predictor.{Predictor}
 use Rattle.predict_core.specs.declared.settings.Settings.{Settings}
-use Rattle.predict_core.specs.declared.wave.form.Form.{Form}
 use Rattle.predict_core.specs.Following.{PredictorState}
 use Rattle.predict_core.specs.GroupLanes.{HasWeights}
 use Rattle.predict_core.specs.Inversion.{IsInverting, IsBandInverted, AreAhead, band_at, number_at}
 use Rattle.predict_core.specs.Wave.{sum_by, sum_at}
+use Rattle.predict_core.specs.WaveForms.{WaveForm}
 use Rattle.predict_core.specs.WaveLanes.{AreLanes, AreInStep, AreToBegin, column_at, first_column}
 use Rattle.predict_core.specs.WaveRows.{AreRowsOf}
 use Rattle.predict_core.specs.WaveTiles.{IsFormOf, StandAsWave}
@@ -53,7 +53,7 @@ constants_at s z = record {
 }
 
 -- what is known before step 8
-pub record IsBegun (q : ℕ) (f : Form) (c : Image) (bands : List PredictorState) (first y origin last : ℕ) (base : Settings)
+pub record IsBegun (q : ℕ) (f : WaveForm) (c : Image) (bands : List PredictorState) (first y origin last : ℕ) (base : Settings)
     (above numbers lower_numbers lower_above lower own weights : List (List ℤ)) : Type 0 where
   pub few : q ≤ 9
   pub pairs : f.pairs ≤ q
@@ -75,7 +75,7 @@ pub record IsBegun (q : ℕ) (f : Form) (c : Image) (bands : List PredictorState
   pub own_is : (i b : ℕ) → 1 ≤ i → i < 8 → b < 8 → place own i b ≡ pos 4 *ℤ place numbers i b -ℤ sum_at f.column numbers above i b
   pub has : (b : ℕ) → b < 8 → HasWeights q b (band_at bands (first + b)) weights
 
-module _ {q : ℕ} {f : Form} {c : Image} {bands : List PredictorState} {first y origin last : ℕ} {base : Settings}
+module _ {q : ℕ} {f : WaveForm} {c : Image} {bands : List PredictorState} {first y origin last : ℕ} {base : Settings}
     {above numbers lower_numbers lower_above lower own weights : List (List ℤ)}
     (k : IsBegun q f c bands first y origin last base above numbers lower_numbers lower_above lower own weights) {p : Params} {d : Image}
     (inv : IsInverting p c d bands) where
@@ -234,7 +234,7 @@ module _ {q : ℕ} {f : Form} {c : Image} {bands : List PredictorState} {first y
       test_yes : (n : ℕ) (a b : ℤ) → 8 ≤ n → (if nat_le 8 n then a else b) ≡ a
       test_yes n a b h = grind (arith, nat_tests, h)
 
-  exponent_is : (x : ℕ) → x < c.shape.columns → f.step.exponent ≡ step_exponent base.predictor d.shape.columns d.kind.bits (y * d.shape.columns + x)
+  exponent_is : (x : ℕ) → x < c.shape.columns → f.exponent ≡ step_exponent base.predictor d.shape.columns d.kind.bits (y * d.shape.columns + x)
   exponent_is x fits = rw (← k.made, columns, ap (λ (n : SampleKind). n.bits) inv.alike.kind) at (k.form.exponent x fits)
 
   pub enough_at : (z : ℕ) → component_count base.predictor z ≤ 2 * q
@@ -251,9 +251,7 @@ module _ {q : ℕ} {f : Form} {c : Image} {bands : List PredictorState} {first y
     columns = λ b fits. ap (λ (z : Sizes). z.columns) (inv.cube.shape ∙ sym head.follows.made.shape) ∙ sym k.of-columns;
     kind = λ b fits. kind_is;
     enough = λ b fits. enough_at (first + b);
-    register = λ b fits. rw (← k.made, inv.alike.kind) at (k.form.narrow.register (first + b));
-    omega_in = rw (← k.made) at k.form.narrow.omega_in;
-    bits = rw inv.alike.kind at k.form.narrow.bits_in;
+    register = λ b fits. rw (← k.made, inv.alike.kind) at (k.form.register (first + b));
     reduced = k.form.reduced ∙ ap (λ (m : Predictor). m.reduced) (sym k.made);
     column = k.form.column ∙ ap (λ (m : Predictor). m.column) (sym k.made);
     previous = k.form.previous ∙ ap (λ (m : Predictor). m.previous) (sym k.made);

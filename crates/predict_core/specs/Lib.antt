@@ -16,6 +16,7 @@ pub mod Steps
 pub mod RunChains
 pub mod Walked
 pub mod Wave
+pub mod WaveForms
 pub mod WaveSteps
 pub mod WaveLanes
 pub mod WaveTiles

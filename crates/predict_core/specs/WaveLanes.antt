@@ -10,12 +10,12 @@ use Rattle.sample_prediction.specs.Chain.{AreWeightsAt}
 use Rattle.sample_prediction.specs.Differences.{central_difference}
 use Rattle.sample_prediction.specs.Residual.{mapped_residual}
 use Rattle.predict_core.specs.declared.settings.Settings.{Settings}
-use Rattle.predict_core.specs.declared.wave.form.Form.{Form}
 use Rattle.predict_core.specs.Following.{PredictorState}
 use Rattle.predict_core.specs.GroupLanes.{HasWeights}
 use Rattle.predict_core.specs.Inversion.{band_at, number_at}
 use Rattle.predict_core.specs.Largest.{NeverWraps}
 use Rattle.predict_core.specs.RunChains.{AreStepsThere}
+use Rattle.predict_core.specs.WaveForms.{WaveForm}
 
 -- the column of lane b in step k
 abbrev pub column_at : ℕ → ℕ → ℕ → ℕ
@@ -31,7 +31,7 @@ first_step origin b = 8 + (b - origin)
 
 -- the constants of the bands, and what doesn't change from step 8 to step `last`: the row above, the central differences of the previous bands below (0
 -- where there is no band), and the form
-pub record AreLanes (q : ℕ) (f : Form) (p : Params) (s : ℕ → Settings) (d : Image) (first y origin last : ℕ) (above lower : List (List ℤ)) : Type 0 where
+pub record AreLanes (q : ℕ) (f : WaveForm) (p : Params) (s : ℕ → Settings) (d : Image) (first y origin last : ℕ) (above lower : List (List ℤ)) : Type 0 where
   pub cube : IsCube d
   pub row : (0 < y) × (y < d.shape.rows)
   pub most : last ≤ 63
@@ -42,13 +42,11 @@ pub record AreLanes (q : ℕ) (f : Form) (p : Params) (s : ℕ → Settings) (d 
   pub kind : (b : ℕ) → b < 8 → d.kind ≡ (s b).range.kind
   pub enough : (b : ℕ) → b < 8 → (s b).count ≤ 2 * q
   pub register : (b : ℕ) → b < 8 → NeverWraps (s b).predictor d.kind.bits (s b).count
-  pub omega_in : (s 0).predictor.omega ≤ 13
-  pub bits : d.kind.bits ≤ 12
   pub reduced : f.reduced ≡ (s 0).predictor.reduced
   pub column : f.column ≡ (s 0).predictor.column
   pub previous : f.previous ≡ (s 0).predictor.previous
   pub greatest : smin d.kind +ℤ f.greatest ≡ smax d.kind
-  pub steps : (b k : ℕ) → b < 8 → column_at origin k b < d.shape.columns → AreStepsThere (s b) d f.step.omega f.step.bits f.step.exponent y (column_at origin k b)
+  pub steps : (b k : ℕ) → b < 8 → column_at origin k b < d.shape.columns → AreStepsThere (s b) d f.omega f.bits f.exponent y (column_at origin k b)
   pub north : (i b : ℕ) → i ≤ last → b < 8 → 7 + b ≤ origin + i → column_at origin i b < d.shape.columns
       → place above i b ≡ pos (number_at d (first + b) (y - 1) (column_at origin i b))
   pub below : (i b : ℕ) → 1 ≤ i → i < last → b < 8 → 8 ≤ f.previous + b → 0 < column_at origin (i + 8) b → column_at origin (i + 8) b + 1 < d.shape.columns

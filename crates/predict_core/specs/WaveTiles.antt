@@ -10,25 +10,23 @@ use Rattle.sample_prediction.specs.Prediction.{weight_vector}
 use Rattle.sample_prediction.specs.Predictor.{component_count}
 use Rattle.sample_prediction.specs.Weights.{step_exponent}
 use Rattle.sample_prediction.specs.declared.predictor.Predictor.{Predictor}
-use Rattle.predict_core.specs.declared.wave.form.Form.{Form}
-use Rattle.predict_core.specs.declared.wave.room.WeightRows.{WeightRows}
 use Rattle.predict_core.specs.Following.{PredictorState}
-use Rattle.predict_core.specs.GroupLanes.{IsNarrow}
 use Rattle.predict_core.specs.Inversion.{IsInverting, band_at, number_at}
-use Rattle.predict_core.specs.Wave.{kept_rows}
+use Rattle.predict_core.specs.Largest.{NeverWraps}
+use Rattle.predict_core.specs.WaveForms.{WaveForm}
 use Rattle.predict_core.specs.WaveLanes.{column_at, first_column, first_step}
 
--- the form is that of a predictor in row y, where one exponent holds from end to end; lanes of 16 bits are exact for it
-pub record IsFormOf (f : Form) (m : Predictor) (c : Image) (y : ℕ) : Type 0 where
-  pub narrow : IsNarrow m c.kind.bits
+-- the form is that of a predictor in row y, where one exponent holds from end to end; its register never wraps
+pub record IsFormOf (f : WaveForm) (m : Predictor) (c : Image) (y : ℕ) : Type 0 where
+  pub register : (z : ℕ) → NeverWraps m c.kind.bits (component_count m z)
   pub enough : (z : ℕ) → component_count m z ≤ 2 * f.pairs
   pub reduced : f.reduced ≡ m.reduced
   pub column : f.column ≡ m.column
   pub previous : f.previous ≡ m.previous
   pub greatest : smin c.kind +ℤ f.greatest ≡ smax c.kind
-  pub omega : f.step.omega ≡ m.omega
-  pub bits : f.step.bits ≡ c.kind.bits
-  pub exponent : (x : ℕ) → x < c.shape.columns → f.step.exponent ≡ step_exponent m c.shape.columns c.kind.bits (y * c.shape.columns + x)
+  pub omega : f.omega ≡ m.omega
+  pub bits : f.bits ≡ c.kind.bits
+  pub exponent : (x : ℕ) → x < c.shape.columns → f.exponent ≡ step_exponent m c.shape.columns c.kind.bits (y * c.shape.columns + x)
 
 -- eight bands stand as a wavefront does before step 8: each a column to the left of the one before, or at column 1
 abbrev pub StandAsWave : List PredictorState → ℕ → ℕ → ℕ → ℕ → Type 0
@@ -47,11 +45,11 @@ abbrev pub end_column : ℕ → ℕ → ℕ → ℕ → ℕ
 end_column columns origin last b = min (columns - 1) (column_at origin last b)
 
 -- the rows that hold the weights of a lane there: some that were kept for it, if it has come to the last column before
-abbrev pub rows_at_end : ℕ → List WeightRows → List (List ℤ) → ℕ → List (List ℤ)
-rows_at_end lanes ends weights b = if nat_lt b lanes then kept_rows ends b else weights
+abbrev pub rows_at_end : ℕ → (ℕ → List (List ℤ)) → List (List ℤ) → ℕ → List (List ℤ)
+rows_at_end lanes ends weights b = if nat_lt b lanes then ends b else weights
 
 -- the lines have the offsets of each band from its first step to step `last`, up to the last column but one, and the rows of weights its weights after them
-pub record AreFound (q : ℕ) (bands : List PredictorState) (c : Image) (first y origin last : ℕ) (lines : List (List ℤ)) (ends : List WeightRows)
+pub record AreFound (q : ℕ) (bands : List PredictorState) (c : Image) (first y origin last : ℕ) (lines : List (List ℤ)) (ends : ℕ → List (List ℤ))
     (weights : List (List ℤ)) : Type 0 where
   pub within : (b i : ℕ) → b < 8 → i < 64 → (pos 0 ≤ℤ place lines b i) × (place lines b i ≤ℤ (pos (2 ^ c.kind.bits) -ℤ pos 1))
   pub enough : (b : ℕ) → b < 8 → length (band_at bands (first + b)).weights ≤ 2 * q

@@ -5,6 +5,7 @@ ghost use Rattle.cube_core.specs.Image.{Image, IsPlace};
 ghost use Rattle.header_bits.specs.declared.params.Params.{Params as Parameters};
 ghost use Rattle.predict_core.specs.Precedence.{AreAlike};
 ghost use Rattle.predict_core.specs.Inversion.{IsAtStart, IsCoded, IsInverting, AreAhead, StandAt, AreKeptBeside, band_at};
+ghost use Rattle.predict_core.specs.WaveForms.{narrow_form};
 ghost use Rattle.predict_core.specs.WaveTiles.{IsFormOf, StandAsWave, StandInRow, end_column};
 
 use crate::band::Band;
@@ -105,7 +106,7 @@ fn invert_wave(
     requires columns { 16 ≤ cube.old.shape.columns }
     requires start { StandAt bands.old first (first + 8) (y * cube.old.shape.columns) }
     requires ahead { AreAhead bands.old first ((y + 1) * cube.old.shape.columns) }
-    requires form { IsFormOf form (band_at bands.old first).predictor cube.old y }
+    requires form { IsFormOf (narrow_form form) (band_at bands.old first).predictor cube.old y }
     ensures inverted { (p : Parameters) (d : Image) → IsInverting p cube.old d bands.old → IsInverting p cube.new d bands.new }
     ensures alike { AreAlike cube.old cube.new }
     ensures many { length bands.new ≡ length bands.old }
@@ -181,7 +182,7 @@ fn invert_tiles(
     requires columns { 16 ≤ cube.old.shape.columns }
     requires stand { StandAsWave bands.old first cube.old.shape.columns y 0 }
     requires ahead { AreAhead bands.old first ((y + 1) * cube.old.shape.columns) }
-    requires form { IsFormOf form (band_at bands.old first).predictor cube.old y }
+    requires form { IsFormOf (narrow_form form) (band_at bands.old first).predictor cube.old y }
     ensures inverted { (p : Parameters) (d : Image) → IsInverting p cube.old d bands.old → IsInverting p cube.new d bands.new }
     ensures alike { AreAlike cube.old cube.new }
     ensures many { length bands.new ≡ length bands.old }
@@ -230,7 +231,7 @@ fn invert_by(
     requires inside { (16 ≤ cube.old.shape.columns) × (origin + 2 ≤ cube.old.shape.columns) × (origin + last ≤ cube.old.shape.columns + 13) }
     requires stand { StandAsWave bands.old first cube.old.shape.columns y origin }
     requires ahead { AreAhead bands.old first ((y + 1) * cube.old.shape.columns) }
-    requires form { IsFormOf form (band_at bands.old first).predictor cube.old y }
+    requires form { IsFormOf (narrow_form form) (band_at bands.old first).predictor cube.old y }
     ensures inverted { (p : Parameters) (d : Image) → IsInverting p cube.old d bands.old → IsInverting p cube.new d bands.new }
     ensures alike { AreAlike cube.old cube.new }
     ensures many { length bands.new ≡ length bands.old }

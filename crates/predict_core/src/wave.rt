@@ -9,6 +9,7 @@ pub(crate) mod components;
 pub(crate) mod finish;
 pub(crate) mod form;
 pub(crate) mod forms;
+pub(crate) mod long;
 pub(crate) mod place;
 pub(crate) mod room;
 pub(crate) mod rows;

@@ -11,6 +11,7 @@ ghost use Rattle.sample_prediction.specs.Chain.{AreWeightsAt};
 ghost use Rattle.predict_core.specs.declared.settings.Settings.{Settings as Constants};
 ghost use Rattle.predict_core.specs.Inversion.{band_at};
 ghost use Rattle.predict_core.specs.Wave.{AreOffsetRows, AreRowsBelow, kept_rows};
+ghost use Rattle.predict_core.specs.WaveForms.{narrow_form};
 ghost use Rattle.predict_core.specs.WaveLanes.{AreLanes, AreInStep, AreToBegin, column_at};
 
 use crate::band::Band;
@@ -47,7 +48,7 @@ pub(crate) fn invert_steps<const Q: usize>(
     ensures own_in { result ≡ true → AreRowsBelow (2 ^ (form.step.bits + 2)) room.new.own }
     ensures weights_in { result ≡ true → (b : ℕ) → b < 8 → AllWithin (2 ^ (form.step.omega + 2)) (weights_of Q b room.new.weights) }
     ensures inverted { result ≡ true → (p : Parameters) (s : ℕ → Constants) (d : Image) (y last : ℕ)
-        → AreLanes Q form p s d first y origin last room.old.above room.old.lower → to ≤ last
+        → AreLanes Q (narrow_form form) p s d first y origin last room.old.above room.old.lower → to ≤ last
         → (origin ≡ 0 → AreToBegin Q p s d first y bands.now room.old.numbers)
         → AreInStep Q p s d first y origin last (min 8 (origin + 1)) 8 room.old.numbers room.old.own room.old.weights
         → AreInStep Q p s d first y origin last 8 to room.new.numbers room.new.own room.new.weights }
@@ -86,7 +87,7 @@ fn begin_lanes<const Q: usize>(
     ensures own_in { result ≡ true → AreRowsBelow (2 ^ (form.step.bits + 2)) room.new.own }
     ensures weights_in { result ≡ true → (b : ℕ) → b < 8 → AllWithin (2 ^ (form.step.omega + 2)) (weights_of Q b room.new.weights) }
     ensures inverted { result ≡ true → (p : Parameters) (s : ℕ → Constants) (d : Image) (y last : ℕ)
-        → AreLanes Q form p s d first y 0 last room.old.above room.old.lower → 15 ≤ last → AreToBegin Q p s d first y bands.now room.old.numbers
+        → AreLanes Q (narrow_form form) p s d first y 0 last room.old.above room.old.lower → 15 ≤ last → AreToBegin Q p s d first y bands.now room.old.numbers
         → AreInStep Q p s d first y 0 last 1 8 room.old.numbers room.old.own room.old.weights
         → AreInStep Q p s d first y 0 last 8 15 room.new.numbers room.new.own room.new.weights }
 {
@@ -121,11 +122,11 @@ pub(crate) fn end_lanes<const Q: usize>(form: Form, from: usize, last: usize, ro
     ensures weights_in { (b : ℕ) → b < 8 → AllWithin (2 ^ (form.step.omega + 2)) (weights_of Q b room.new.weights) }
     ensures ends_in { (b : ℕ) → b < last - from → AllWithin (2 ^ (form.step.omega + 2)) (weights_of Q b (kept_rows room.new.ends b)) }
     ensures inverted { (p : Parameters) (s : ℕ → Constants) (d : Image) (first y origin : ℕ)
-        → AreLanes Q form p s d first y origin last room.old.above room.old.lower → 15 ≤ origin + from
+        → AreLanes Q (narrow_form form) p s d first y origin last room.old.above room.old.lower → 15 ≤ origin + from
         → AreInStep Q p s d first y origin last 8 from room.old.numbers room.old.own room.old.weights
         → AreInStep Q p s d first y origin last 8 last room.new.numbers room.new.own room.new.weights }
     ensures kept { (p : Parameters) (s : ℕ → Constants) (d : Image) (first y origin : ℕ)
-        → AreLanes Q form p s d first y origin last room.old.above room.old.lower → 15 ≤ origin + from
+        → AreLanes Q (narrow_form form) p s d first y origin last room.old.above room.old.lower → 15 ≤ origin + from
         → AreInStep Q p s d first y origin last 8 from room.old.numbers room.old.own room.old.weights
         → (b : ℕ) → b < last - from → column_at origin (from + b) b < d.shape.columns
         → AreWeightsAt p (s b).predictor d (first + b) (y * d.shape.columns + column_at origin (from + b) b) (take (s b).count (weights_of Q b (kept_rows room.new.ends b))) }
@@ -176,7 +177,7 @@ fn invert_by<const Q: usize>(form: Form, stretch: Stretch, room: &mut WaveRoom)
     ensures own_in { AreRowsBelow (2 ^ (form.step.bits + 2)) room.new.own }
     ensures weights_in { (b : ℕ) → b < 8 → AllWithin (2 ^ (form.step.omega + 2)) (weights_of Q b room.new.weights) }
     ensures inverted { (p : Parameters) (s : ℕ → Constants) (d : Image) (first y origin last n : ℕ)
-        → AreLanes Q form p s d first y origin last room.old.above room.old.lower
+        → AreLanes Q (narrow_form form) p s d first y origin last room.old.above room.old.lower
         → stretch.to ≤ last → (n ≤ 8) × (n + 7 ≤ origin + stretch.from)
         → AreInStep Q p s d first y origin last n stretch.from room.old.numbers room.old.own room.old.weights
         → AreInStep Q p s d first y origin last n stretch.to room.new.numbers room.new.own room.new.weights }

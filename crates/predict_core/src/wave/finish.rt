@@ -10,6 +10,7 @@ ghost use Rattle.sample_prediction.specs.Prediction.{weight_vector};
 ghost use Rattle.predict_core.specs.Following.{MovesBy};
 ghost use Rattle.predict_core.specs.Inversion.{IsInverting, AreKeptBeside, band_at, number_at};
 ghost use Rattle.predict_core.specs.Precedence.{AreAlike};
+ghost use Rattle.predict_core.specs.Wave.{kept_rows};
 ghost use Rattle.predict_core.specs.WaveLanes.{column_at, first_column, first_step};
 ghost use Rattle.predict_core.specs.WaveTiles.{end_column, ended, rows_at_end};
 
@@ -42,10 +43,10 @@ pub(crate) fn finish_lane<const Q: usize>(
     requires offsets_in { (i : ℕ) → i < 64 → (pos 0 ≤ℤ place room.now.lines b i) × (place room.now.lines b i ≤ℤ (pos (2 ^ cube.old.kind.bits) -ℤ pos 1)) }
     requires enough { length (band_at bands.old (first + b)).weights ≤ 2 * Q }
     requires weights_in { AllWithin (2 ^ ((band_at bands.old (first + b)).predictor.omega + 2))
-        (weights_of Q b (rows_at_end (ended cube.old.shape.columns origin last) room.now.ends room.now.weights b)) }
+        (weights_of Q b (rows_at_end (ended cube.old.shape.columns origin last) (kept_rows room.now.ends) room.now.weights b)) }
     ensures inverted { (p : Parameters) (d : Image) → IsInverting p cube.old d bands.old
         → ((i : ℕ) → first_step origin b ≤ i → i < last → column_at origin i b + 1 < cube.old.shape.columns → place room.now.lines b i ≡ pos (number_at d (first + b) y (column_at origin i b)))
-        → take (length (band_at bands.old (first + b)).weights) (weights_of Q b (rows_at_end (ended cube.old.shape.columns origin last) room.now.ends room.now.weights b))
+        → take (length (band_at bands.old (first + b)).weights) (weights_of Q b (rows_at_end (ended cube.old.shape.columns origin last) (kept_rows room.now.ends) room.now.weights b))
         ≡ weight_vector p d (first + b) (y * cube.old.shape.columns + end_column cube.old.shape.columns origin last b)
         → IsInverting p cube.new d bands.new }
     ensures alike { AreAlike cube.old cube.new }
@@ -89,7 +90,7 @@ pub(crate) fn ended_of(cube: &Cube, origin: usize, last: usize) -> usize
 /// Returns the rows that hold the weights of lane `b` where it ends: those that were kept for it, if it is one of the first `lanes`.
 fn weights_at_end(room: &WaveRoom, lanes: usize, b: usize) -> &[[i16; 16]; MOST_PAIRS]
     requires { b < 8 }
-    ensures { result.now ≡ rows_at_end lanes room.now.ends room.now.weights b }
+    ensures { result.now ≡ rows_at_end lanes (kept_rows room.now.ends) room.now.weights b }
 {
     if b < lanes {
         &room.ends[b].rows

@@ -6,6 +6,7 @@ ghost use Rattle.cube_core.specs.Image.{Image};
 ghost use Rattle.sample_prediction.specs.Predictor.{component_count};
 ghost use Rattle.sample_prediction.specs.Weights.{step_exponent};
 ghost use Rattle.predict_core.specs.GroupLanes.{IsNarrow};
+ghost use Rattle.predict_core.specs.WaveForms.{narrow_form};
 ghost use Rattle.predict_core.specs.WaveTiles.{IsFormOf};
 
 use crate::band::Band;
@@ -26,7 +27,7 @@ const MOST_PREVIOUS: u32 = 7;
 /// of 16 bits are exact, and one exponent holds from end to end of the row.
 pub(crate) fn form_of(band: &Band, y: u32) -> Option<Form>
     requires { y < band.now.shape.rows }
-    ensures form { IfSome result (λ f. (c : Image) → c.shape ≡ band.now.shape → c.kind ≡ band.now.kind → IsFormOf f band.now.predictor c y) }
+    ensures form { IfSome result (λ f. (c : Image) → c.shape ≡ band.now.shape → c.kind ≡ band.now.kind → IsFormOf (narrow_form f) band.now.predictor c y) }
     ensures columns { IfSome result (λ f. 16 ≤ band.now.shape.columns) }
 {
     let settings = &band.settings;

@@ -2,6 +2,7 @@
 
 ghost use Rattle.std.specs.Prelude.{◌≡◌, ◌+◌, ◌^◌, ◌<◌, ◌≤◌, true, false, length, pos, negsuc, ◌≤ℤ◌};
 ghost use Rattle.predict_core.specs.Wave.{AreOffsetRows, AreRowsBelow};
+ghost use Rattle.predict_core.specs.WaveForms.{narrow_form};
 ghost use Rattle.predict_core.specs.WaveSteps.{IsStepped};
 
 use crate::wave::components::put_components;
@@ -36,7 +37,7 @@ pub(crate) fn invert_place<const Q: usize, const RAISED: bool, const LIMITED: bo
     requires raised { RAISED ≡ true → form.step.exponent ≤ℤ negsuc 0 }
     requires lowered { RAISED ≡ false → pos 0 ≤ℤ form.step.exponent }
     requires whole { LIMITED ≡ false → form.step.omega ≡ 13 }
-    ensures stepped { IsStepped Q form k above.now lower.now numbers.old own.old weights.old pairs.new numbers.new own.new weights.new }
+    ensures stepped { IsStepped Q (narrow_form form) k above.now lower.now numbers.old own.old weights.old numbers.new own.new weights.new }
     ensures numbers_in { AreOffsetRows form.greatest numbers.new }
     ensures own_in { AreRowsBelow (2 ^ (form.step.bits + 2)) own.new }
     ensures long { length weights.new ≡ 9 }

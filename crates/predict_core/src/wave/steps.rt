@@ -7,6 +7,7 @@ ghost use Rattle.band_lanes.specs.Rows.{weights_of};
 ghost use Rattle.sample_prediction.specs.Bounds.{AllWithin};
 ghost use Rattle.predict_core.specs.declared.settings.Settings.{Settings as Constants};
 ghost use Rattle.predict_core.specs.Wave.{AreOffsetRows, AreRowsBelow};
+ghost use Rattle.predict_core.specs.WaveForms.{narrow_form};
 ghost use Rattle.predict_core.specs.WaveLanes.{AreLanes, AreInStep};
 
 use crate::wave::form::Form;
@@ -49,7 +50,7 @@ pub(crate) fn invert_places<const Q: usize, const RAISED: bool, const LIMITED: b
     ensures numbers_in { AreOffsetRows form.greatest numbers.new }
     ensures own_in { AreRowsBelow (2 ^ (form.step.bits + 2)) own.new }
     ensures weights_in { (b : ℕ) → b < 8 → AllWithin (2 ^ (form.step.omega + 2)) (weights_of Q b weights.new) }
-    ensures inverted { (p : Parameters) (s : ℕ → Constants) (d : Image) (first y origin last n : ℕ) → AreLanes Q form p s d first y origin last above.now lower.now
+    ensures inverted { (p : Parameters) (s : ℕ → Constants) (d : Image) (first y origin last n : ℕ) → AreLanes Q (narrow_form form) p s d first y origin last above.now lower.now
         → stretch.to ≤ last → (n ≤ 8) × (n + 7 ≤ origin + stretch.from)
         → AreInStep Q p s d first y origin last n stretch.from numbers.old own.old weights.old
         → AreInStep Q p s d first y origin last n stretch.to numbers.new own.new weights.new }

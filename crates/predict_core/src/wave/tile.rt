@@ -5,6 +5,8 @@ ghost use Rattle.cube_core.specs.Image.{Image};
 ghost use Rattle.header_bits.specs.declared.params.Params.{Params as Parameters};
 ghost use Rattle.predict_core.specs.Inversion.{IsInverting, AreAhead, AreKeptBeside, band_at};
 ghost use Rattle.predict_core.specs.Precedence.{AreAlike};
+ghost use Rattle.predict_core.specs.Wave.{kept_rows};
+ghost use Rattle.predict_core.specs.WaveForms.{narrow_form};
 ghost use Rattle.predict_core.specs.WaveTiles.{AreFound, IsFormOf, StandAsWave, end_column};
 
 use crate::band::Band;
@@ -43,7 +45,7 @@ pub(crate) fn invert_tile<const Q: usize>(
     requires inside { (16 ≤ cube.old.shape.columns) × (origin + 2 ≤ cube.old.shape.columns) × (origin + last ≤ cube.old.shape.columns + 13) }
     requires stand { StandAsWave bands.old first cube.old.shape.columns y origin }
     requires ahead { AreAhead bands.old first ((y + 1) * cube.old.shape.columns) }
-    requires form { IsFormOf form (band_at bands.old first).predictor cube.old y }
+    requires form { IsFormOf (narrow_form form) (band_at bands.old first).predictor cube.old y }
     ensures inverted { (p : Parameters) (d : Image) → IsInverting p cube.old d bands.old → IsInverting p cube.new d bands.new }
     ensures alike { AreAlike cube.old cube.new }
     ensures many { length bands.new ≡ length bands.old }
@@ -79,8 +81,8 @@ fn invert_lanes<const Q: usize>(
     requires inside { (16 ≤ cube.now.shape.columns) × (origin + 2 ≤ cube.now.shape.columns) × (origin + last ≤ cube.now.shape.columns + 13) }
     requires stand { StandAsWave bands.now first cube.now.shape.columns y origin }
     requires ahead { AreAhead bands.now first ((y + 1) * cube.now.shape.columns) }
-    requires form { IsFormOf form (band_at bands.now first).predictor cube.now y }
-    ensures { result ≡ true → AreFound Q bands.now cube.now first y origin last room.new.lines room.new.ends room.new.weights }
+    requires form { IsFormOf (narrow_form form) (band_at bands.now first).predictor cube.now y }
+    ensures { result ≡ true → AreFound Q bands.now cube.now first y origin last room.new.lines (kept_rows room.new.ends) room.new.weights }
 {
     cube.prove_is_cube();
     // The constants of one band are those of all, but for its number.
@@ -175,7 +177,7 @@ fn finish_lanes<const Q: usize>(
     requires inside { (16 ≤ cube.old.shape.columns) × (origin + 2 ≤ cube.old.shape.columns) × (origin + last ≤ cube.old.shape.columns + 13) }
     requires stand { StandAsWave bands.old first cube.old.shape.columns y origin }
     requires enough { (b : ℕ) → b < 8 → length (band_at bands.old (first + b)).weights ≤ 2 * Q }
-    requires found { AreFound Q bands.old cube.old first y origin last room.now.lines room.now.ends room.now.weights }
+    requires found { AreFound Q bands.old cube.old first y origin last room.now.lines (kept_rows room.now.ends) room.now.weights }
     ensures inverted { (p : Parameters) (d : Image) → IsInverting p cube.old d bands.old → IsInverting p cube.new d bands.new }
     ensures alike { AreAlike cube.old cube.new }
     ensures many { length bands.new ≡ length bands.old }

@@ -6,6 +6,7 @@ use Rattle.lanes.specs.Lanes.{place}
 use Rattle.sample_prediction.specs.Prediction.{weight_vector}
 use Rattle.predict_core.specs.GroupRooms.{no_band}
 use Rattle.predict_core.specs.Inversion.{band_at, number_at}
+use Rattle.predict_core.specs.Wave.{kept_rows}
 use Rattle.predict_core.specs.WaveLanes.{column_at, first_column, first_step}
 use Rattle.predict_core.specs.WaveTiles.{ended, end_column, rows_at_end}
 use Rattle.predict_core.proofs.Inverted.{known_inverted}
@@ -22,8 +23,8 @@ returns-clause-inverted g c p d inv lines weights =
     let begins : c.saturating_sub-from.result ≡ c.args.b - c.args.origin = c.saturating_sub-from.ensures in
     let stands : c.saturating_sub-x.result ≡ c.args.origin - c.args.b = c.saturating_sub-x.ensures in
     let ends : c.end_of.result ≡ end = c.end_of.ensures in
-    let rows : c.weights_at_end-rows.result.now ≡ rows_at_end (ended columns c.args.origin c.args.last) c.args.room.now.ends c.args.room.now.weights c.args.b =
-    c.weights_at_end-rows.ensures ∙ ap (λ (k : ℕ). rows_at_end k c.args.room.now.ends c.args.room.now.weights c.args.b) c.ended_of.ensures in
+    let rows : c.weights_at_end-rows.result.now ≡ rows_at_end (ended columns c.args.origin c.args.last) (kept_rows c.args.room.now.ends) c.args.room.now.weights c.args.b =
+    c.weights_at_end-rows.ensures ∙ ap (λ (k : ℕ). rows_at_end k (kept_rows c.args.room.now.ends) c.args.room.now.weights c.args.b) c.ended_of.ensures in
     let here : get_or c.args.bands.now z c.index-bands-z.result ≡ band_at c.args.bands.now z =
     get_or_from_slice_get c.args.bands.now z (band_at c.args.bands.now z) c.index-bands-z.result (slice_get-get_or c.args.bands.now z no_band c.requires.band) in
     let old = inv.each z (rw inv.many at c.requires.band) in

@@ -1,13 +1,16 @@
-use Rattle.std.proofs.Common.{◌≡◌, ◌∙◌, ◌+◌, ◌-◌, ◌*◌, ◌^◌, ◌<◌, ℕ, ℤ, pos, ◌-ℤ◌, ◌*ℤ◌, ◌≤ℤ◌, unsigned_abs, List, [], ◌∷◌, length, ap, inl, inr, arith, refl, rules, SFits, w16, to_z-of_z}
+use Rattle.std.proofs.Common.{◌≡◌, ◌∙◌, ◌+◌, ◌-◌, ◌*◌, ◌^◌, ◌<◌, ℕ, ℤ, pos, ◌-ℤ◌, ◌*ℤ◌, ◌≤ℤ◌, unsigned_abs, List, [], ◌∷◌, length, map, get_or, ap, inl, inr, arith, refl, rules, SFits, w16, to_z-of_z}
 use Rattle.std.proofs.Common.{get_or-set_same, get_or-set_other}
 use Rattle.std.proofs.lemmas.Bool.{cases_eq}
 use Rattle.std.proofs.lemmas.Int.{ints}
+use Rattle.std.proofs.lemmas.List.{get_or-map, length-map}
 use Rattle.std.proofs.lemmas.Nat.{pow_pos}
 use Rattle.lanes.specs.Lanes.{lane, place}
-use Rattle.band_lanes.specs.Rows.{AreBelow}
+use Rattle.band_lanes.specs.declared.pairs.Pairs.{Pairs}
+use Rattle.band_lanes.specs.Rows.{AreBelow, row_at, no_pairs}
 use Rattle.predict_core.specs.Wave.{sum_at, component_in}
 use Rattle.predict_core.proofs.GroupFilled.{all_below}
 use Rattle.predict_core.proofs.GroupLines.{three}
+use Rattle.predict_core.proofs.GroupVectors.{components_at}
 use Rattle.predict_core.proofs.WaveParts.{component_below, difference_below}
 use Rattle.predict_core.proofs.wave.step.invert_place.Given as given
 use Rattle.predict_core.proofs.wave.step.invert_place.Goals as goal
@@ -87,17 +90,24 @@ returns-clause-stepped g c =
     let fits_own : k < length c.args.own.now = omega (arith, c.requires.step.1, c.told-own) in
     let offsets = get_or-set_same c.args.numbers.now k c.unmapped-offsets.result [] fits in
     let central = get_or-set_same c.args.own.now k c.differences-central.result [] fits_own in
+    let pairs = c.put_components.new.pairs in let rows : List (List ℤ) = map (λ (q : Pairs). row_at q 0) pairs in
+    let long : length pairs ≡ 9 = c.put_components.ensures.long in
+    let at : (j : ℕ) → j < g.row.Q → get_or rows j [] ≡ row_at (get_or pairs j no_pairs) 0 =
+    λ j m. get_or-map (λ (q : Pairs). row_at q 0) pairs j no_pairs [] (omega (arith, m, long, c.requires.few)) in
     record {
       directions = c.differences.result ∷ c.differences-2.result ∷ c.differences-3.result ∷ [];
       north = north g d;
       west = west g d;
       north_west = north_west g d;
-      long = c.put_components.ensures.long;
-      even = c.put_components.ensures.even;
-      odd = c.put_components.ensures.odd;
-      number = λ b l. rw offsets (found.value b l ∙ rw (c.predict_place-parts.ensures b l, sum_is g d b l) refl);
+      components = rows;
+      part = λ b. lane c.predict_place-parts.result b;
+      long = length-map pairs (λ (q : Pairs). row_at q 0) ∙ long;
+      even = λ j b m l. ap (λ (row : List ℤ). lane row (2 * b)) (at j m) ∙ c.put_components.ensures.even j b m l;
+      odd = λ j b m l. ap (λ (row : List ℤ). lane row (2 * b + 1)) (at j m) ∙ c.put_components.ensures.odd j b m l;
+      predicted = λ b l. inr (c.args.form.step.bits_in, rw (← components_at g.row.Q b 0 pairs) (c.predict_place-parts.ensures b l));
+      number = λ b l. rw offsets (found.value b l ∙ rw (sum_is g d b l) refl);
       central = λ b l. rw (offsets, central) (c.differences-central.ensures b l ∙ rw (sum_is g d b l) refl);
-      updated = λ b l. rw central (c.update_all.ensures b l ∙ rw (c.predict_place-parts.ensures b l) refl);
+      updated = λ b l. rw (central, ← components_at g.row.Q b 0 pairs) (c.update_all.ensures b l);
       numbers_kept = λ i b apart. ap (λ (row : List ℤ). lane row b) (get_or-set_other c.args.numbers.now k i c.unmapped-offsets.result [] apart);
       own_kept = λ i b apart. ap (λ (row : List ℤ). lane row b) (get_or-set_other c.args.own.now k i c.differences-central.result [] apart);
     }

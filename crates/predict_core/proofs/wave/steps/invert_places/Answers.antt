@@ -13,7 +13,7 @@ loop-k-preserved g c =
       weights_in = λ b l. subst (AllWithin (2 ^ (c.args.form.step.omega + 2))) (sym (did.stepped.updated b l)) (updated_within _ _ _ _ _);
       long = did.long;
       inverted = λ p s d first y origin last n lanes fits begun start.
-          step_more lanes (omega (arith, c.loop-k.auto, steps.0), omega (arith, c.loop-k-test.true, fits)) (begun.0, omega (arith, begun.1, c.loop-k.auto)) did.stepped
+          step_more c.args.form.previous_in lanes (omega (arith, c.loop-k.auto, steps.0), omega (arith, c.loop-k-test.true, fits)) (begun.0, omega (arith, begun.1, c.loop-k.auto)) did.stepped
           kept.long kept.weights_in (kept.inverted p s d first y origin last n lanes fits begun start);
     }
 

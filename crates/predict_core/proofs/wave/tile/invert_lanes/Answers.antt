@@ -14,7 +14,8 @@ use Rattle.predict_core.specs.Following.{PredictorState}
 use Rattle.predict_core.specs.GroupLanes.{HasWeights}
 use Rattle.predict_core.specs.GroupRooms.{no_band}
 use Rattle.predict_core.specs.Inversion.{IsInverting, band_at}
-use Rattle.predict_core.specs.Wave.{AreOffsetRows}
+use Rattle.predict_core.specs.Wave.{AreOffsetRows, kept_rows}
+use Rattle.predict_core.specs.WaveForms.{narrow_form}
 use Rattle.predict_core.specs.WaveLanes.{AreLanes}
 use Rattle.predict_core.specs.WaveTiles.{ended, rows_at_end}
 use Rattle.predict_core.proofs.WaveEnds.{at_end, whole_far, offsets_found, weights_found}
@@ -49,7 +50,7 @@ module _ (g : given.Over) (c : After-fill_centrals-2 g) where
   here = sym (get_or_from_slice_get c.args.bands.now c.args.first c.index-bands-first.result no_band
       (slice_get_read c.args.bands.now (length c.args.bands.now) c.args.first c.index-bands-first.result refl (omega (arith, c.requires.eight)) c.index-bands-first.is))
 
-  begun : IsBegun g.row.Q c.args.form c.args.cube.now c.args.bands.now c.args.first c.args.y c.args.origin c.args.last c.constants_of-constants.result
+  begun : IsBegun g.row.Q (narrow_form c.args.form) c.args.cube.now c.args.bands.now c.args.first c.args.y c.args.origin c.args.last c.constants_of-constants.result
       c.fill_rows-2.new.rows c.fill_rows.new.rows c.fill_rows-3.new.rows c.fill_rows-4.new.rows c.fill_centrals.new.out c.fill_centrals-2.new.out
       c.fill_weights.new.rows
   begun =
@@ -114,10 +115,10 @@ returns g c said =
     let whole : last - (last - lanes) ≡ lanes = omega (arith, inside.1) in
     let far = whole_far width origin last inside.0 inside.1 c.requires.last.0 c.requires.begun.0 c.requires.begun.1 in
     let did = rw lanes_are at c.invert_steps.ensures in let done = c.if-not-invert_steps.false in let end = rw lanes_are at c.end_lanes.ensures in
-    let ends = c.end_lanes.new.room.ends in let weights = c.end_lanes.new.room.weights in
+    let ends = kept_rows c.end_lanes.new.room.ends in let weights = c.end_lanes.new.room.weights in
     let settings = λ (b : ℕ). constants_at c.constants_of-constants.result (c.args.first + b) in
     let constant : (p : Params) (d : Image) → IsInverting p c.args.cube.now d c.args.bands.now
-    → AreLanes g.row.Q c.args.form p settings d c.args.first c.args.y origin last c.invert_steps.new.room.above c.invert_steps.new.room.lower =
+    → AreLanes g.row.Q (narrow_form c.args.form) p settings d c.args.first c.args.y origin last c.invert_steps.new.room.above c.invert_steps.new.room.lower =
     λ p d inv. rw (did.above done, did.lower done) (lanes_begun (begun g e) inv) in
     let start = λ (p : Params) (d : Image) (inv : IsInverting p c.args.cube.now d c.args.bands.now).
     did.inverted done p settings d c.args.y last (lanes_begun (begun g e) inv) (omega arith) (to_begin (begun g e) inv) (start_begun (begun g e) inv) in
