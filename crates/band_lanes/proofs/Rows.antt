@@ -52,7 +52,7 @@ same_length n b rows pairs i h k = weights_long n b rows h ∙ sym (components_l
 
 -- ---- their products
 
-two_products : (ws us : List ℤ) (w v u x : ℤ) → length ws ≡ length us
+pub two_products : (ws us : List ℤ) (w v u x : ℤ) → length ws ≡ length us
     → inner_product (ws ++ w ∷ v ∷ []) (us ++ u ∷ x ∷ []) ≡ inner_product ws us +ℤ (w *ℤ u +ℤ v *ℤ x)
 two_products ws us w v u x e =
     let one = product_more ws us w u e in
@@ -82,13 +82,13 @@ two_updates f e s ws us w v u x h =
     ∙ ap (λ ys. ys ++ updated_weight f e s v x ∷ []) (update_more f e s ws us w u h)
     ∙ append_assoc (updated_weights f e s ws us) (updated_weight f e s w u ∷ []) (updated_weight f e s v x ∷ [])
 
-with_row : (n b : ℕ) (now : List (List ℤ)) (row : List ℤ) → n < length now → weights_of (n + 1) b (set now n row) ≡ weights_of n b now ++ pair_of b row
+pub with_row : (n b : ℕ) (now : List (List ℤ)) (row : List ℤ) → n < length now → weights_of (n + 1) b (set now n row) ≡ weights_of n b now ++ pair_of b row
 unfolding weights_of
 with_row n b now row l =
     ap (λ k. flat_map (pair_of b) (take k (set now n row))) (add-one n) ∙ ap (flat_map (pair_of b)) (take-suc-set now n row l)
     ∙ flat_map-append (pair_of b) (take n now) (row ∷ []) ∙ ap (λ ys. flat_map (pair_of b) (take n now) ++ ys) (append_none (pair_of b row))
 
-pair_updated : (f : ℕ) (e : ℤ) (s : Bool) (ws us : List ℤ) (w v u x : ℤ) → length ws ≡ length us
+pub pair_updated : (f : ℕ) (e : ℤ) (s : Bool) (ws us : List ℤ) (w v u x : ℤ) → length ws ≡ length us
     → updated_weights f e s (ws ++ w ∷ v ∷ []) (us ++ u ∷ x ∷ []) ≡ updated_weights f e s ws us ++ updated_weights f e s (w ∷ v ∷ []) (u ∷ x ∷ [])
 unfolding updated_weights
 pair_updated f e s ws us w v u x h = two_updates f e s ws us w v u x h

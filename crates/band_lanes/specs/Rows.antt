@@ -1,5 +1,5 @@
 -- Rows that hold numbers of eight bands, and what they hold of each.
-use Rattle.std.specs.Prelude.{ℕ, ◌+◌, ◌*◌, ◌^◌, ◌<◌, ℤ, unsigned_abs, List, [], ◌∷◌, map, take, slice_index_or}
+use Rattle.std.specs.Prelude.{ℕ, ◌+◌, ◌*◌, ◌^◌, ◌<◌, ◌≤◌, ℤ, unsigned_abs, List, [], ◌∷◌, map, take, slice_index_or}
 use Rattle.std.specs.List.{flat_map}
 use Rattle.lanes.specs.Lanes.{lane, held}
 use Rattle.band_lanes.specs.declared.pairs.Pairs.{Pairs}
@@ -25,6 +25,14 @@ no_pairs = record { places = [] }
 -- the weights of band b, from the first n rows of pairs
 unfoldable pub weights_of : ℕ → ℕ → List (List ℤ) → List ℤ
 weights_of n b rows = flat_map (pair_of b) (take n rows)
+
+-- the components of band b, from the first n rows of pairs at one place
+abbrev pub pairs_of : ℕ → ℕ → List (List ℤ) → List ℤ
+pairs_of n b rows = weights_of n b rows
+
+-- the numbers of eight bands in the first n rows of pairs are within a limit in size
+abbrev pub AreRowsWithin : ℕ → ℕ → List (List ℤ) → Type 0
+AreRowsWithin limit n rows = (c k : ℕ) → c < n → k < 16 → unsigned_abs (lane (slice_index_or rows c []) k) ≤ limit
 
 -- the components of band b at place i, from the first n pairs of components
 unfoldable pub components_of : ℕ → ℕ → List Pairs → ℕ → List ℤ

@@ -4,4 +4,4 @@ pub mod follow;
 mod predicted;
 pub mod rows;
 pub mod step;
-mod update;
+pub(crate) mod update;

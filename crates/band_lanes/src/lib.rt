@@ -4,6 +4,7 @@
 
 pub mod follow;
 pub mod four;
+pub mod long;
 pub mod pairs;
 mod predicted;
 pub mod step;

@@ -45,9 +45,9 @@ fn put_row(row: i32x4, c: usize, weights: &mut [[i32; 4]; MOST_COMPONENTS])
     four::put(row, &mut weights[c]);
 }
 
-/// Returns the weights of a component after a place.
+/// Returns four weights after a place.
 #[inline(always)]
-fn updated<const RAISED: bool>(
+pub(crate) fn updated<const RAISED: bool>(
     weights: &[i32; 4],
     components: &[i32; 4],
     own: i32x4,

@@ -1,0 +1,130 @@
+//! Steps of numbers of 32 bits that stand in pairs.
+
+ghost use Rattle.std.specs.Prelude.{◌≡◌, ◌≤◌, ◌<◌, ◌+◌, ◌*◌, ◌/◌, ◌^◌, ℕ, ◌+ℤ◌, ◌*ℤ◌, unsigned_abs, length};
+ghost use Rattle.lanes.specs.Lanes.{lane, pair_sum};
+
+use std::simd::prelude::*;
+
+/// Returns the sums of two neighbouring products: in lane k that of lanes 2k and 2k + 1, exact wherever it fits in 64 bits.
+///
+/// Every second lane stands where a multiplication to 64 bits reads it.
+#[inline(always)]
+pub(crate) fn pair_products(a: i32x4, b: i32x4) -> i64x2
+    ensures { (k : ℕ) → k < 2 → unsigned_abs (pair_sum a b k) < 2 ^ 63 → lane result k ≡ pair_sum a b k }
+{
+    sum(even_products(a, b), odd_products(a, b))
+}
+
+/// Returns the products of every second two lanes, from the first on.
+#[inline(always)]
+fn even_products(a: i32x4, b: i32x4) -> i64x2
+    ensures { (k : ℕ) → k < 2 → lane result k ≡ lane a (2 * k) *ℤ lane b (2 * k) }
+{
+    products(evens(a), evens(b))
+}
+
+/// Returns the products of every second two lanes, from the second on.
+#[inline(always)]
+fn odd_products(a: i32x4, b: i32x4) -> i64x2
+    ensures { (k : ℕ) → k < 2 → lane result k ≡ lane a (2 * k + 1) *ℤ lane b (2 * k + 1) }
+{
+    products(odds(a), odds(b))
+}
+
+/// Returns every second lane, from the first on.
+#[inline(always)]
+fn evens(a: i32x4) -> i32x2
+    ensures { (k : ℕ) → k < 2 → lane result k ≡ lane a (2 * k) }
+{
+    a.swizzle([0, 2])
+}
+
+/// Returns every second lane, from the second on.
+#[inline(always)]
+fn odds(a: i32x4) -> i32x2
+    ensures { (k : ℕ) → k < 2 → lane result k ≡ lane a (2 * k + 1) }
+{
+    a.swizzle([1, 3])
+}
+
+/// Returns the product of each two lanes, which 64 bits hold.
+#[inline(always)]
+fn products(a: i32x2, b: i32x2) -> i64x2
+    ensures { (k : ℕ) → k < 2 → lane result k ≡ lane a k *ℤ lane b k }
+{
+    a.cast::<i64>() * b.cast::<i64>()
+}
+
+/// Returns the sum of each two lanes of 64 bits, exact wherever it fits in 64 bits.
+#[inline(always)]
+pub(crate) fn sum(a: i64x2, b: i64x2) -> i64x2
+    ensures { (k : ℕ) → k < 2 → unsigned_abs (lane a k +ℤ lane b k) < 2 ^ 63 → lane result k ≡ lane a k +ℤ lane b k }
+{
+    a + b
+}
+
+/// Puts the lanes of two vectors one after the other.
+#[inline(always)]
+pub(crate) fn joined(a: i64x2, b: i64x2) -> i64x4
+    ensures first { (k : ℕ) → k < 2 → lane result k ≡ lane a k }
+    ensures second { (k : ℕ) → k < 2 → lane result (2 + k) ≡ lane b k }
+{
+    a.shuffle(b, [0, 1, 2, 3])
+}
+
+/// Puts the lanes of two vectors one after the other, as a row.
+#[inline(always)]
+pub(crate) fn joined_row(a: i32x4, b: i32x4) -> [i32; 8]
+    ensures first { (k : ℕ) → k < 4 → lane result k ≡ lane a k }
+    ensures second { (k : ℕ) → k < 4 → lane result (4 + k) ≡ lane b k }
+{
+    a.shuffle(b, [0, 1, 2, 3, 4, 5, 6, 7]).to_array()
+}
+
+/// Returns each number of a row twice, side by side.
+#[inline(always)]
+pub(crate) fn spread(row: &[i32; 8]) -> [i32; 16]
+    ensures { (k : ℕ) → k < 16 → lane result k ≡ lane row.now (k / 2) }
+{
+    let row = copied(row);
+    i32x8::from_array(row)
+        .swizzle([0, 0, 1, 1, 2, 2, 3, 3, 4, 4, 5, 5, 6, 6, 7, 7])
+        .to_array()
+}
+
+/// Returns a copy of a row.
+#[inline(always)]
+fn copied(row: &[i32; 8]) -> [i32; 8]
+    ensures { result ≡ row.now }
+{
+    *row
+}
+
+/// Returns the four numbers of a row from number 4j on.
+#[inline(always)]
+pub(crate) fn part_of(row: &[i32; 16], j: usize) -> i32x4
+    requires { j < 4 }
+    ensures { (k : ℕ) → k < 4 → lane result k ≡ lane row.now (4 * j + k) }
+{
+    let (fours, _) = row.as_chunks::<4>();
+    four_numbers(fours[j])
+}
+
+/// Returns the numbers of a row.
+#[inline(always)]
+fn four_numbers(row: [i32; 4]) -> i32x4
+    ensures { result ≡ row }
+{
+    i32x4::from_array(row)
+}
+
+/// Writes four numbers into a row, from number 4j on.
+#[inline(always)]
+pub(crate) fn put_part(numbers: i32x4, j: usize, row: &mut [i32; 16])
+    requires { j < 4 }
+    ensures long { length row.new ≡ 16 }
+    ensures before { (k : ℕ) → k < 4 * j → lane row.new k ≡ lane row.old k }
+    ensures written { (k : ℕ) → k < 4 → lane row.new (4 * j + k) ≡ lane numbers k }
+{
+    numbers.copy_to_slice(&mut row[4 * j..]);
+}
