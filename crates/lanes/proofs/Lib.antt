@@ -1,4 +1,5 @@
 pub mod MaskSteps
+pub mod Moves
 pub mod Numbers
 pub mod PrefixSums
 pub mod Ranges

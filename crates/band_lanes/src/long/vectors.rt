@@ -1,6 +1,6 @@
 //! Steps of numbers of 32 bits that stand in pairs.
 
-ghost use Rattle.std.specs.Prelude.{◌≡◌, ◌≤◌, ◌<◌, ◌+◌, ◌*◌, ◌/◌, ◌^◌, ℕ, ◌+ℤ◌, ◌*ℤ◌, unsigned_abs, length};
+ghost use Rattle.std.specs.Prelude.{◌≡◌, ◌≤◌, ◌<◌, ◌+◌, ◌-◌, ◌*◌, ◌/◌, ◌^◌, ℕ, ◌+ℤ◌, ◌*ℤ◌, unsigned_abs, length};
 ghost use Rattle.lanes.specs.Lanes.{lane, pair_sum};
 
 use std::simd::prelude::*;
@@ -90,6 +90,52 @@ pub(crate) fn spread(row: &[i32; 8]) -> [i32; 16]
     i32x8::from_array(row)
         .swizzle([0, 0, 1, 1, 2, 2, 3, 3, 4, 4, 5, 5, 6, 6, 7, 7])
         .to_array()
+}
+
+/// Puts the numbers of two rows side by side: number k of `even` becomes number 2k, and that of `odd` number 2k + 1.
+#[inline(always)]
+pub fn woven(even: &[i32; 8], odd: &[i32; 8]) -> [i32; 16]
+    ensures even { (k : ℕ) → k < 8 → lane result (2 * k) ≡ lane even.now k }
+    ensures odd { (k : ℕ) → k < 8 → lane result (2 * k + 1) ≡ lane odd.now k }
+{
+    let even = copied(even);
+    let odd = copied(odd);
+    i32x8::from_array(even)
+        .shuffle(
+            i32x8::from_array(odd),
+            [0, 8, 1, 9, 2, 10, 3, 11, 4, 12, 5, 13, 6, 14, 7, 15],
+        )
+        .to_array()
+}
+
+/// Moves the numbers of `second` up by `by`, 1 to 7, and puts the last numbers of `first` before them.
+#[inline(always)]
+pub fn moved(first: &[i32; 8], second: &[i32; 8], by: usize) -> [i32; 8]
+    requires { (1 ≤ by) × (by ≤ 7) }
+    ensures first { (k : ℕ) → k < by → lane result k ≡ lane first.now (8 + k - by) }
+    ensures second { (k : ℕ) → by ≤ k → k < 8 → lane result k ≡ lane second.now (k - by) }
+{
+    let first = copied(first);
+    let second = copied(second);
+    moved_lanes(i32x8::from_array(first), i32x8::from_array(second), by).to_array()
+}
+
+/// `moved` of vectors.
+#[inline(always)]
+fn moved_lanes(first: i32x8, second: i32x8, by: usize) -> i32x8
+    requires { (1 ≤ by) × (by ≤ 7) }
+    ensures first { (k : ℕ) → k < by → lane result k ≡ lane first (8 + k - by) }
+    ensures second { (k : ℕ) → by ≤ k → k < 8 → lane result k ≡ lane second (k - by) }
+{
+    match by {
+        1 => first.shuffle(second, [7, 8, 9, 10, 11, 12, 13, 14]),
+        2 => first.shuffle(second, [6, 7, 8, 9, 10, 11, 12, 13]),
+        3 => first.shuffle(second, [5, 6, 7, 8, 9, 10, 11, 12]),
+        4 => first.shuffle(second, [4, 5, 6, 7, 8, 9, 10, 11]),
+        5 => first.shuffle(second, [3, 4, 5, 6, 7, 8, 9, 10]),
+        6 => first.shuffle(second, [2, 3, 4, 5, 6, 7, 8, 9]),
+        _ => first.shuffle(second, [1, 2, 3, 4, 5, 6, 7, 8]),
+    }
 }
 
 /// Returns a copy of a row.
