@@ -27,6 +27,7 @@ pub mod Ranges
 pub mod Told
 pub mod Largest
 pub mod LongLanes
+pub mod ErrorNumbers
 pub mod ErrorSigns
 pub mod Borders
 pub mod RunSteps

@@ -147,7 +147,7 @@ fn apart(offset: i32, value: i32) -> i32
 
 /// Returns the distance of an offset from the nearer end of the range.
 #[inline(always)]
-fn nearer(greatest: i32, value: i32) -> i32
+pub(crate) fn nearer(greatest: i32, value: i32) -> i32
     requires greatest_in { greatest ≤ℤ pos 65535 }
     requires value_in { (pos 0 ≤ℤ value) × (value ≤ℤ greatest) }
     ensures value { result ≡ pos (theta_between (pos 0) greatest value) }
