@@ -3,6 +3,7 @@
 ghost use Rattle.std.specs.Prelude.{◌≡◌, ◌≤◌, ◌<◌, ◌+◌, ◌-◌, ◌*◌, ◌/◌, ◌^◌, ℕ, ◌+ℤ◌, ◌*ℤ◌, unsigned_abs, length};
 ghost use Rattle.lanes.specs.Lanes.{lane, pair_sum};
 
+use lanes::four::numbers;
 use std::simd::prelude::*;
 
 /// Returns the sums of two neighbouring products: in lane k that of lanes 2k and 2k + 1, exact wherever it fits in 64 bits.
@@ -86,8 +87,7 @@ pub(crate) fn joined_row(a: i32x4, b: i32x4) -> [i32; 8]
 pub(crate) fn spread(row: &[i32; 8]) -> [i32; 16]
     ensures { (k : ℕ) → k < 16 → lane result k ≡ lane row.now (k / 2) }
 {
-    let row = copied(row);
-    i32x8::from_array(row)
+    eight_numbers(row)
         .swizzle([0, 0, 1, 1, 2, 2, 3, 3, 4, 4, 5, 5, 6, 6, 7, 7])
         .to_array()
 }
@@ -98,13 +98,9 @@ pub fn woven(even: &[i32; 8], odd: &[i32; 8]) -> [i32; 16]
     ensures even { (k : ℕ) → k < 8 → lane result (2 * k) ≡ lane even.now k }
     ensures odd { (k : ℕ) → k < 8 → lane result (2 * k + 1) ≡ lane odd.now k }
 {
-    let even = copied(even);
-    let odd = copied(odd);
-    i32x8::from_array(even)
-        .shuffle(
-            i32x8::from_array(odd),
-            [0, 8, 1, 9, 2, 10, 3, 11, 4, 12, 5, 13, 6, 14, 7, 15],
-        )
+    let even = eight_numbers(even);
+    let odd = eight_numbers(odd);
+    even.shuffle(odd, [0, 8, 1, 9, 2, 10, 3, 11, 4, 12, 5, 13, 6, 14, 7, 15])
         .to_array()
 }
 
@@ -115,9 +111,7 @@ pub fn moved(first: &[i32; 8], second: &[i32; 8], by: usize) -> [i32; 8]
     ensures first { (k : ℕ) → k < by → lane result k ≡ lane first.now (8 + k - by) }
     ensures second { (k : ℕ) → by ≤ k → k < 8 → lane result k ≡ lane second.now (k - by) }
 {
-    let first = copied(first);
-    let second = copied(second);
-    moved_lanes(i32x8::from_array(first), i32x8::from_array(second), by).to_array()
+    moved_lanes(eight_numbers(first), eight_numbers(second), by).to_array()
 }
 
 /// `moved` of vectors.
@@ -138,6 +132,16 @@ fn moved_lanes(first: i32x8, second: i32x8, by: usize) -> i32x8
     }
 }
 
+/// Returns the numbers of a row, by loads of vectors, as `lanes::four::numbers` does.
+#[inline(always)]
+fn eight_numbers(row: &[i32; 8]) -> i32x8
+    ensures { result ≡ row.now }
+{
+    // What it says of the row's numbers is all that this is for.
+    let _same = copied(row);
+    i32x8::from_slice(row)
+}
+
 /// Returns a copy of a row.
 #[inline(always)]
 fn copied(row: &[i32; 8]) -> [i32; 8]
@@ -153,15 +157,7 @@ pub(crate) fn part_of(row: &[i32; 16], j: usize) -> i32x4
     ensures { (k : ℕ) → k < 4 → lane result k ≡ lane row.now (4 * j + k) }
 {
     let (fours, _) = row.as_chunks::<4>();
-    four_numbers(fours[j])
-}
-
-/// Returns the numbers of a row.
-#[inline(always)]
-fn four_numbers(row: [i32; 4]) -> i32x4
-    ensures { result ≡ row }
-{
-    i32x4::from_array(row)
+    numbers(&fours[j])
 }
 
 /// Writes four numbers into a row, from number 4j on.

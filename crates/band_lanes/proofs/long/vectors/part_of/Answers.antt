@@ -7,6 +7,6 @@ use Rattle.band_lanes.proofs.long.vectors.part_of.Goals as goal
 
 pub returns : goal.returns
 returns c k within =
-    let r = vector w32 4 c.four_numbers.result _ c.four_numbers.type_inv in
-    kept w32 c.four_numbers.result k r.1 ∙ ap (λ l. lane l k) (c.four_numbers.ensures ∙ ap (λ l. get_or l c.args.j []) c.as_chunks.ensures.front)
+    let r = vector w32 4 c.numbers.result _ c.numbers.type_inv in
+    kept w32 c.numbers.result k r.1 ∙ ap (λ l. lane l k) (c.numbers.ensures ∙ ap (λ l. get_or l c.args.j []) c.as_chunks.ensures.front)
     ∙ quarter _ c.args.j k c.args.row.now (omega (arith, c.told-row, c.requires)) within

@@ -10,8 +10,8 @@ places = 0 ∷ 0 ∷ 1 ∷ 1 ∷ 2 ∷ 2 ∷ 3 ∷ 3 ∷ 4 ∷ 4 ∷ 5 ∷ 5 ∷
 
 pub returns : goal.returns
 returns c k within =
-    let r = vector w32 8 c.copied-row.result _ c.copied-row.type_inv in
+    let r = vector w32 8 c.eight_numbers.result _ c.eight_numbers.type_inv in
     let at : get_or places k 0 ≡ k / 2 = by_halves (λ j. get_or places j 0 ≡ j / 2)
     (eight (λ j. get_or places j 0 ≡ j / 2) refl refl refl refl refl refl refl refl)
     (eight (λ j. get_or places (8 + j) 0 ≡ (8 + j) / 2) refl refl refl refl refl refl refl refl) k within in
-    picked w32 c.copied-row.result c.copied-row.result places 8 k (k / 2) r.0 r.1 within at (omega arith) ∙ ap (λ l. lane l (k / 2)) c.copied-row.ensures
+    picked w32 c.eight_numbers.result c.eight_numbers.result places 8 k (k / 2) r.0 r.1 within at (omega arith) ∙ ap (λ l. lane l (k / 2)) c.eight_numbers.ensures

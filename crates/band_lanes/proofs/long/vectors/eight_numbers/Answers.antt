@@ -1,0 +1,12 @@
+use Rattle.std.proofs.Common.{ℕ, List, ℤ, ◌≡◌, ◌∙◌, sym, subst, ap, map, to_z, of_z, SFits, w32, arith}
+use Rattle.std.proofs.lemmas.List.{take_all}
+use Rattle.lanes.specs.Lanes.{lane}
+use Rattle.lanes.proofs.Ranges.{vector}
+use Rattle.lanes.proofs.Steps.{same}
+use Rattle.band_lanes.proofs.long.vectors.eight_numbers.Goals as goal
+
+pub returns : goal.returns
+returns c =
+    let r = vector w32 8 c.copied-same.result _ c.copied-same.type_inv in
+    let fits : (k : ℕ) → SFits w32 (lane c.args.row.now k) = subst (λ xs. (k : ℕ) → SFits w32 (lane xs k)) c.copied-same.ensures r.1 in
+    ap (λ xs. map (to_z w32) (map (of_z w32) xs)) (take_all 8 c.args.row.now (omega (arith, c.told-row))) ∙ same w32 c.args.row.now fits
