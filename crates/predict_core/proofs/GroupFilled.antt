@@ -95,15 +95,19 @@ component_below p c cube z y x k later wide place =
       | inr l ↦ subst (λ v. unsigned_abs v < 2 ^ (c.kind.bits + 2)) (sym (get_or_past (difference_vector p c z y x) k (pos 0) l)) (omega (arith, power, some))
     ]
 
-pub all_below : (limit q i : ℕ) (pairs : List Pairs) → ((j b : ℕ) → j < q → b < 8 → unsigned_abs (lane (row_at (get_or pairs j no_pairs) i) (2 * b)) < limit)
-    → ((j b : ℕ) → j < q → b < 8 → unsigned_abs (lane (row_at (get_or pairs j no_pairs) i) (2 * b + 1)) < limit) → AreBelow limit q pairs i
-all_below limit q i pairs even odd j k l m = elim (cases_eq k (2 * (k / 2))) [
-  | inl e ↦ subst (λ n. unsigned_abs (lane (row_at (get_or pairs j no_pairs) i) n) < limit) (sym e) (even j (k / 2) l (omega (arith, m)))
-  | inr n ↦ subst (λ n. unsigned_abs (lane (row_at (get_or pairs j no_pairs) i) n) < limit) (sym (other n)) (odd j (k / 2) l (omega (arith, m)))
+-- what holds of both numbers of each of eight bands holds of sixteen
+pub by_pairs : (P : ℕ → Type 0) → ((b : ℕ) → b < 8 → P (2 * b)) → ((b : ℕ) → b < 8 → P (2 * b + 1)) → (k : ℕ) → k < 16 → P k
+by_pairs P even odd k l = elim (cases_eq k (2 * (k / 2))) [
+  | inl e ↦ subst P (sym e) (even (k / 2) (omega (arith, l)))
+  | inr n ↦ subst P (sym (other n)) (odd (k / 2) (omega (arith, l)))
 ]
   where
     other : k ≢ 2 * (k / 2) → k ≡ 2 * (k / 2) + 1
     other n = omega (arith, n)
+
+pub all_below : (limit q i : ℕ) (pairs : List Pairs) → ((j b : ℕ) → j < q → b < 8 → unsigned_abs (lane (row_at (get_or pairs j no_pairs) i) (2 * b)) < limit)
+    → ((j b : ℕ) → j < q → b < 8 → unsigned_abs (lane (row_at (get_or pairs j no_pairs) i) (2 * b + 1)) < limit) → AreBelow limit q pairs i
+all_below limit q i pairs even odd j k l = by_pairs (λ n. unsigned_abs (lane (row_at (get_or pairs j no_pairs) i) n) < limit) (λ b. even j b l) (λ b. odd j b l) k
 
 -- ---- the chain of a lane
 

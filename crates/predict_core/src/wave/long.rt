@@ -3,4 +3,6 @@
 pub(crate) mod components;
 pub(crate) mod form;
 pub(crate) mod place;
+pub(crate) mod step;
+pub(crate) mod steps;
 pub(crate) mod unmapping;
