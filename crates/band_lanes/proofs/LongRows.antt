@@ -1,5 +1,5 @@
 -- Rows of pairs of 32 bits: their numbers by band, a row more, and how large their products are.
-use Rattle.std.proofs.Common.{◌≡◌, ℕ, zero, suc, int_le, ◌+◌, ◌-◌, ◌*◌, ◌/◌, ◌%◌, ◌^◌, ◌<◌, ◌≤◌, ℤ, pos, ◌+ℤ◌, ◌*ℤ◌, unsigned_abs, Bool, List, [], ◌∷◌, ◌++◌, length, take, get_or, set, arith, refl, sym, ap, ap₂, ◌∙◌, subst, inl, inr, le_trans, get_or-take}
+use Rattle.std.proofs.Common.{◌≡◌, ℕ, zero, suc, ◌+◌, ◌-◌, ◌*◌, ◌/◌, ◌%◌, ◌^◌, ◌<◌, ◌≤◌, ℤ, pos, ◌+ℤ◌, ◌*ℤ◌, unsigned_abs, Bool, List, [], ◌∷◌, ◌++◌, length, take, get_or, set, arith, refl, sym, ap, ap₂, ◌∙◌, subst, inl, inr, le_trans, get_or-take}
 use Rattle.std.proofs.lemmas.Bool.{cases_lt}
 use Rattle.std.proofs.lemmas.Int.{ints, unsigned_abs-mul}
 use Rattle.std.proofs.lemmas.List.{length-take-le}
@@ -11,7 +11,7 @@ use Rattle.lanes.specs.Lanes.{lane, pair_sum}
 use Rattle.lanes.proofs.TurningFour.{chunk_of_four}
 use Rattle.sample_prediction.specs.Bounds.{AllWithin}
 use Rattle.sample_prediction.specs.Prediction.{inner_product}
-use Rattle.sample_prediction.specs.Weights.{updated_weights, updated_weight}
+use Rattle.sample_prediction.specs.Weights.{updated_weights}
 use Rattle.sample_prediction.proofs.Inner.{inner_within}
 use Rattle.band_lanes.specs.Rows.{pair_of, weights_of, pairs_of, AreRowsWithin}
 use Rattle.band_lanes.proofs.Rows.{weights_long, weights_more, with_row, two_products, pair_updated}

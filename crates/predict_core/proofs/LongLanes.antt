@@ -1,5 +1,5 @@
 -- One place of a band's chain in its lane of 32 bits.
-use Rattle.std.proofs.Common.{◌≡◌, ℕ, zero, suc, ◌+◌, ◌-◌, ◌*◌, ◌^◌, ◌<◌, ◌≤◌, ℤ, pos, ◌+ℤ◌, int_le, unsigned_abs, List, [], ◌∷◌, false}
+use Rattle.std.proofs.Common.{◌≡◌, ℕ, zero, suc, ◌+◌, ◌-◌, ◌*◌, ◌^◌, ◌<◌, ◌≤◌, ℤ, pos, int_le, unsigned_abs, List, [], ◌∷◌, false}
 use Rattle.std.proofs.Common.{◌++◌, length, take, drop, get_or, set, replicate, slice_get, Some, refl, sym, ap, ap₂, ◌∙◌, subst, arith, length-append, inl}
 use Rattle.std.specs.List.{AllByRecursion}
 use Rattle.std.proofs.Math.Pow.{pow-add}

@@ -1,4 +1,4 @@
-use Rattle.std.proofs.Common.{◌≡◌, ℕ, List, [], replicate, ◌+◌, ◌*◌, ◌^◌, ◌<◌, ◌≤◌, ℤ, pos, ◌+ℤ◌, unsigned_abs, ◌∙◌, refl, sym, ap, subst, arith, map, to_z, get_or, w64, le_trans, pow_mono}
+use Rattle.std.proofs.Common.{◌≡◌, ℕ, List, [], replicate, ◌+◌, ◌*◌, ◌^◌, ◌<◌, ◌≤◌, ℤ, pos, ◌+ℤ◌, unsigned_abs, ◌∙◌, refl, sym, ap, subst, arith, get_or, w64, le_trans, pow_mono}
 use Rattle.lanes.specs.Lanes.{lane, pair_sum}
 use Rattle.lanes.proofs.Ranges.{vector}
 use Rattle.lanes.proofs.Steps.{kept, two}

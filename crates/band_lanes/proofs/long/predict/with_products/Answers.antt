@@ -1,5 +1,5 @@
-use Rattle.std.proofs.Common.{◌≡◌, ℕ, ℤ, ◌+◌, ◌*◌, ◌^◌, ◌<◌, ◌+ℤ◌, ◌*ℤ◌, unsigned_abs, ◌∙◌, sym, ap, ap₂, subst, arith, map, to_z, of_z, w32, w64}
-use Rattle.lanes.specs.Lanes.{lane, pair_sum}
+use Rattle.std.proofs.Common.{◌≡◌, ℕ, ◌+◌, ◌*◌, ◌^◌, ◌<◌, ◌+ℤ◌, ◌*ℤ◌, unsigned_abs, ◌∙◌, sym, ap, ap₂, subst, arith, map, to_z, of_z, w32, w64}
+use Rattle.lanes.specs.Lanes.{lane}
 use Rattle.lanes.proofs.Ranges.{vector}
 use Rattle.lanes.proofs.Steps.{kept}
 use Rattle.band_lanes.proofs.long.predict.with_products.Goals as goal

@@ -1,4 +1,4 @@
-use Rattle.std.proofs.Common.{◌≡◌, ℕ, ◌+◌, ◌/◌, ◌^◌, ◌<◌, ◌≤◌, ◌∙◌, [], refl, sym, ap, ap₂, subst, arith, int_le, get_or, length-set, get_or-set_other, unsigned_abs, pow_mono, le_trans}
+use Rattle.std.proofs.Common.{◌≡◌, ℕ, ◌+◌, ◌^◌, ◌<◌, ◌≤◌, ◌∙◌, [], refl, sym, ap, ap₂, subst, arith, int_le, get_or, length-set, get_or-set_other, unsigned_abs, pow_mono, le_trans}
 use Rattle.lanes.specs.Lanes.{lane}
 use Rattle.sample_prediction.specs.Weights.{updated_weight, updated_weights}
 use Rattle.band_lanes.specs.Rows.{weights_of, pairs_of}

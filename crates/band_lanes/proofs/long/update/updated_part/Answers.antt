@@ -1,4 +1,4 @@
-use Rattle.std.proofs.Common.{◌≡◌, ℕ, ◌+◌, ◌*◌, ◌^◌, ◌<◌, ◌≤◌, ◌∙◌, unsigned_abs, List, ℤ, [], sym, ap, ap₂, subst, arith, map, to_z, of_z, int_le, get_or, w32}
+use Rattle.std.proofs.Common.{◌≡◌, ℕ, ◌+◌, ◌*◌, ◌^◌, ◌<◌, ◌≤◌, ◌∙◌, unsigned_abs, [], sym, ap, ap₂, subst, arith, int_le, get_or, w32}
 use Rattle.lanes.specs.Lanes.{lane}
 use Rattle.lanes.proofs.Ranges.{vector}
 use Rattle.lanes.proofs.Steps.{kept}

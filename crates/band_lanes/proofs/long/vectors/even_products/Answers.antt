@@ -1,4 +1,4 @@
-use Rattle.std.proofs.Common.{◌+◌, ◌*◌, ◌*ℤ◌, ◌∙◌, ap₂, w32, w64}
+use Rattle.std.proofs.Common.{◌*◌, ◌*ℤ◌, ◌∙◌, ap₂, w32, w64}
 use Rattle.lanes.proofs.Ranges.{vector}
 use Rattle.lanes.proofs.Steps.{kept}
 use Rattle.band_lanes.proofs.long.vectors.even_products.Goals as goal

@@ -1,4 +1,4 @@
-use Rattle.std.proofs.Common.{ℕ, List, ◌+◌, ◌/◌, ◌<◌, ◌≡◌, ◌∙◌, refl, ap, arith, w32, ◌∷◌, [], get_or}
+use Rattle.std.proofs.Common.{ℕ, List, ◌+◌, ◌/◌, ◌≡◌, ◌∙◌, refl, ap, arith, w32, ◌∷◌, [], get_or}
 use Rattle.lanes.proofs.Ranges.{vector}
 use Rattle.lanes.proofs.Steps.{eight, picked}
 use Rattle.lanes.specs.Lanes.{lane}
