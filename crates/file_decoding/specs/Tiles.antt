@@ -1,5 +1,5 @@
 -- Tiles: the places that are read together, consecutive columns of one row in the same bands.
-use Rattle.std.specs.Prelude.{ℕ, ◌≡◌, ◌+◌, ◌*◌, ◌/◌, ◌%◌, ◌<◌, ◌≤◌, List, slice_index}
+use Rattle.std.specs.Prelude.{ℕ, ◌≡◌, ◌+◌, ◌*◌, ◌/◌, ◌%◌, ◌<◌, ◌≤◌, List, [], slice_index, slice_index_or}
 use Rattle.cube_core.specs.Image.{Image, IsPlace, sample_at}
 use Rattle.cube_core.specs.Order.{place_index}
 use Rattle.cube_core.specs.Tiles.{IsTiled, most_bands}
@@ -38,3 +38,7 @@ pub record HasStored (c d : Image) (tile : Tile) (numbers : List ℕ) (n : ℕ) 
   pub stored : (i b : ℕ) → i < tile.columns → b < n
       → number_at d (tile.place.z + b) tile.place.y (tile.place.x + i) ≡ slice_index numbers (i * tile.bands + b)
   pub others : (z y x : ℕ) → IsPlace c.shape z y x → IsOutside tile n z y x → sample_at c z y x ≡ sample_at d z y x
+
+-- the number at a place of a line
+abbrev pub number_in : List (List ℕ) → ℕ → ℕ → ℕ
+number_in lines b i = slice_index (slice_index_or lines b []) i
