@@ -83,6 +83,14 @@ weights_held q b s n ws rows is few count within e =
       within = rw e (within_take (2 ^ (s.predictor.omega + 2)) (2 * q) ws within);
     }
 
+-- the first numbers of two lists are the same if each is
+pub same_first : (n : ℕ) (xs ys : List ℤ) → n ≤ length xs → n ≤ length ys → ((k : ℕ) → k < n → get_or xs k (pos 0) ≡ get_or ys k (pos 0)) → take n xs ≡ take n ys
+same_first zero xs ys h l same = refl
+same_first (suc n) [] ys h l same = absurd (omega (arith, h))
+same_first (suc n) (x ∷ xs) [] h l same = absurd (omega (arith, l))
+same_first (suc n) (x ∷ xs) (y ∷ ys) h l same =
+    ap₂ (λ v vs. v ∷ vs) (same 0 (omega arith)) (same_first n xs ys (omega (arith, h)) (omega (arith, l)) (λ k m. same (suc k) (omega (arith, m))))
+
 -- a first entry may be written before a list is cut or after
 pub set_taken : (n : ℕ) (xs : List ℕ) (r : ℕ) → take n (set xs 0 r) ≡ set (take n xs) 0 r
 set_taken zero xs r = refl

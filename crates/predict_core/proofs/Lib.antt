@@ -45,3 +45,4 @@ pub mod WaveForms
 pub mod WaveRows
 pub mod WaveBegun
 pub mod WaveEnds
+pub mod WaveFound

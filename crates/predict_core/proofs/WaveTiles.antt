@@ -24,7 +24,7 @@ use Rattle.predict_core.specs.Inversion.{IsInverting, IsBandInverted, AreAhead, 
 use Rattle.predict_core.specs.Wave.{sum_by, sum_at}
 use Rattle.predict_core.specs.WaveForms.{WaveForm}
 use Rattle.predict_core.specs.WaveLanes.{AreLanes, AreInStep, AreToBegin, column_at, first_column}
-use Rattle.predict_core.specs.WaveRows.{AreRowsOf}
+use Rattle.predict_core.specs.WaveRows.{AreFilled}
 use Rattle.predict_core.specs.WaveTiles.{IsFormOf, StandAsWave}
 use Rattle.predict_core.proofs.WaveLanes.{central_told}
 
@@ -54,7 +54,7 @@ constants_at s z = record {
 
 -- what is known before step 8
 pub record IsBegun (q : ℕ) (f : WaveForm) (c : Image) (bands : List PredictorState) (first y origin last : ℕ) (base : Settings)
-    (above numbers lower_numbers lower_above lower own weights : List (List ℤ)) : Type 0 where
+    (above numbers lower own weights : List (List ℤ)) : Type 0 where
   pub few : q ≤ 9
   pub pairs : f.pairs ≤ q
   pub eight : first + 8 ≤ length bands
@@ -67,17 +67,11 @@ pub record IsBegun (q : ℕ) (f : WaveForm) (c : Image) (bands : List PredictorS
   pub made : base.predictor ≡ (band_at bands first).predictor
   pub of-kind : base.range.kind ≡ (band_at bands first).kind
   pub of-columns : base.columns ≡ (band_at bands first).shape.columns
-  pub above_is : AreRowsOf c first 0 0 (y - 1) origin above
-  pub numbers_is : AreRowsOf c first 0 0 y origin numbers
-  pub lower_numbers_is : AreRowsOf c first 8 (8 - f.previous) y origin lower_numbers
-  pub lower_above_is : AreRowsOf c first 8 (8 - f.previous) (y - 1) origin lower_above
-  pub lower_is : (i b : ℕ) → 1 ≤ i → i < 63 → b < 8 → place lower i b ≡ pos 4 *ℤ place lower_numbers i b -ℤ sum_at f.column lower_numbers lower_above i b
-  pub own_is : (i b : ℕ) → 1 ≤ i → i < 8 → b < 8 → place own i b ≡ pos 4 *ℤ place numbers i b -ℤ sum_at f.column numbers above i b
-  pub has : (b : ℕ) → b < 8 → HasWeights q b (band_at bands (first + b)) weights
+  pub filled : AreFilled q f c bands first y origin above numbers lower own weights
 
 module _ {q : ℕ} {f : WaveForm} {c : Image} {bands : List PredictorState} {first y origin last : ℕ} {base : Settings}
-    {above numbers lower_numbers lower_above lower own weights : List (List ℤ)}
-    (k : IsBegun q f c bands first y origin last base above numbers lower_numbers lower_above lower own weights) {p : Params} {d : Image}
+    {above numbers lower own weights : List (List ℤ)}
+    (k : IsBegun q f c bands first y origin last base above numbers lower own weights) {p : Params} {d : Image}
     (inv : IsInverting p c d bands) where
   abbrev s : ℕ → Settings
   s b = constants_at base (first + b)
@@ -139,13 +133,13 @@ module _ {q : ℕ} {f : WaveForm} {c : Image} {bands : List PredictorState} {fir
 
   own_number : (i b : ℕ) → i < 64 → b < 8 → 7 + b ≤ origin + i → column_at origin i b < c.shape.columns
       → place numbers i b ≡ pos (number_at c (first + b) y (column_at origin i b))
-  own_number i b small fits low bound = let same : first + b - 0 ≡ first + b = omega arith in rw (none, same) at (k.numbers_is.numbers i b small fits (omega arith) (omega arith) (omega (arith, low)) (rw none bound))
+  own_number i b small fits low bound = let same : first + b - 0 ≡ first + b = omega arith in rw (none, same) at (k.filled.numbers_is.numbers i b small fits (omega arith) (omega arith) (omega (arith, low)) (rw none bound))
 
   above_number : (i b : ℕ) → i < 64 → b < 8 → 7 + b ≤ origin + i → column_at origin i b < c.shape.columns
       → place above i b ≡ pos (number_at d (first + b) (y - 1) (column_at origin i b))
   above_number i b small fits low bound =
       let same : first + b - 0 ≡ first + b = omega arith in
-      rw (none, same) at (k.above_is.numbers i b small fits (omega arith) (omega arith) (omega (arith, low)) (rw none bound))
+      rw (none, same) at (k.filled.above_is.numbers i b small fits (omega arith) (omega arith) (omega (arith, low)) (rw none bound))
       ∙ ap (λ (n : ℕ). pos n) (done_above (first + b) (column_at origin i b) (omega (arith, fits)) bound)
 
   place_of : (z x : ℕ) → z < first + 8 → x < c.shape.columns → IsPlace d.shape z y x
@@ -164,7 +158,7 @@ module _ {q : ℕ} {f : WaveForm} {c : Image} {bands : List PredictorState} {fir
       let north_west = above_number (i - 1) b (omega (arith, high)) fits (omega (arith, left, low)) (omega (arith, right, before)) in
       let north = above_number i b (omega (arith, high)) fits (omega (arith, left)) (omega (arith, right)) in
       let north_east = above_number (i + 1) b (omega (arith, high)) fits (omega (arith, left)) (omega (arith, right, after)) in
-      k.own_is i b (omega (arith, low)) high fits
+      k.filled.own_is i b (omega (arith, low)) high fits
       ∙ rw (here, west, north_west, north, north_east, before, after, k.form.column, ← k.made)
       (sym (central_told base.predictor d inv.cube.cube (first + b) y x (place_of (first + b) x (omega (arith, fits)) (omega (arith, right)))
       k.row.0 left (omega (arith, right, columns))))
@@ -179,8 +173,8 @@ module _ {q : ℕ} {f : WaveForm} {c : Image} {bands : List PredictorState} {fir
 
     lower_none : first + b < 8 → place lower i b ≡ pos 0
     lower_none out =
-        let zero = λ (j : ℕ) (h : j < 64). k.lower_numbers_is.none j b h fits out in let zero_above = λ (j : ℕ) (h : j < 64). k.lower_above_is.none j b h fits out in
-        k.lower_is i b low high fits
+        let zero = λ (j : ℕ) (h : j < 64). k.filled.lower_numbers_is.none j b h fits out in let zero_above = λ (j : ℕ) (h : j < 64). k.filled.lower_above_is.none j b h fits out in
+        k.filled.lower_is i b low high fits
         ∙ rw (
           zero i (omega (arith, high)),
           zero (i - 1) (omega (arith, high)),
@@ -196,9 +190,9 @@ module _ {q : ℕ} {f : WaveForm} {c : Image} {bands : List PredictorState} {fir
     lower_some : 8 ≤ f.previous + b → 8 ≤ first + b → 0 < x → x + 1 < c.shape.columns → place lower i b ≡ central_difference base.predictor d (first + b - 8) y x
     lower_some used some left right =
         let z : ℕ = first + b - 8 in
-        let number = λ (j : ℕ) (h : j < 64) (m : 7 + b ≤ origin + 8 + j) (l : column_at (origin + 8) j b < c.shape.columns). k.lower_numbers_is.numbers j b h fits (omega (arith, used)) some m l
+        let number = λ (j : ℕ) (h : j < 64) (m : 7 + b ≤ origin + 8 + j) (l : column_at (origin + 8) j b < c.shape.columns). k.filled.lower_numbers_is.numbers j b h fits (omega (arith, used)) some m l
         ∙ ap (λ (n : ℕ). pos n) (done_below z (column_at (origin + 8) j b) (omega (arith, some, fits)) l) in
-        let number_above = λ (j : ℕ) (h : j < 64) (m : 7 + b ≤ origin + 8 + j) (l : column_at (origin + 8) j b < c.shape.columns). k.lower_above_is.numbers j b h fits (omega (arith, used)) some m l
+        let number_above = λ (j : ℕ) (h : j < 64) (m : 7 + b ≤ origin + 8 + j) (l : column_at (origin + 8) j b < c.shape.columns). k.filled.lower_above_is.numbers j b h fits (omega (arith, used)) some m l
         ∙ ap (λ (n : ℕ). pos n) (done_above z (column_at (origin + 8) j b) (omega (arith, some, fits)) l) in
         let before : column_at (origin + 8) (i - 1) b ≡ x - 1 = omega (arith, low) in
         let after : column_at (origin + 8) (i + 1) b ≡ x + 1 = omega (arith, left) in
@@ -207,13 +201,13 @@ module _ {q : ℕ} {f : WaveForm} {c : Image} {bands : List PredictorState} {fir
         let north_west = number_above (i - 1) (omega (arith, high)) (omega (arith, left, low)) (omega (arith, right, before)) in
         let north = number_above i (omega (arith, high)) (omega (arith, left)) (omega (arith, right)) in
         let north_east = number_above (i + 1) (omega (arith, high)) (omega (arith, left)) (omega (arith, right, after)) in
-        k.lower_is i b low high fits
+        k.filled.lower_is i b low high fits
         ∙ rw (here, west, north_west, north, north_east, before, after, k.form.column, ← k.made)
         (sym (central_told base.predictor d inv.cube.cube z y x (place_of z x (omega (arith, some, fits)) (omega (arith, right)))
         k.row.0 left (omega (arith, right, columns))))
 
   pub count_is : (b : ℕ) → b < 8 → component_count base.predictor (first + b) ≡ length (band_at bands (first + b)).weights
-  count_is b fits = sym ((k.has b fits).long ∙ ap₂ component_count (same_made b fits) (band b fits).band)
+  count_is b fits = sym ((k.filled.has b fits).long ∙ ap₂ component_count (same_made b fits) (band b fits).band)
 
   kind_is : d.kind ≡ base.range.kind
   kind_is = inv.cube.kind ∙ sym head.follows.made.kind ∙ sym k.of-kind
@@ -296,7 +290,7 @@ module _ {q : ℕ} {f : WaveForm} {c : Image} {bands : List PredictorState} {fir
     centrals = λ i b low high mine left right. own_central i b low high (omega (arith, mine)) left (omega (arith, right, columns));
     weights_at = λ b mine bound.
         let fits : b < 8 = omega (arith, mine) in let column : column_at origin 8 b ≡ first_column origin b = omega (arith, mine) in
-        rw column (weights_there b fits weights (k.has b fits));
+        rw column (weights_there b fits weights (k.filled.has b fits));
   }
 
   -- and in those that are to begin

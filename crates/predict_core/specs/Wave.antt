@@ -2,6 +2,7 @@
 use Rattle.std.specs.Prelude.{ℕ, ◌+◌, ◌-◌, ◌<◌, nat_lt, ℤ, pos, ◌+ℤ◌, ◌*ℤ◌, ◌≤ℤ◌, unsigned_abs, Bool, List, [], slice_index_or, if◌then◌else◌}
 use Rattle.lanes.specs.Lanes.{lane, place}
 use Rattle.predict_core.specs.declared.wave.room.WeightRows.{WeightRows}
+use Rattle.predict_core.specs.declared.wave.long.room.LongWeightRows.{LongWeightRows}
 
 -- each of eight lanes holds a number from 0 to a limit
 abbrev pub AreOffsets : ℤ → List ℤ → Type 0
@@ -43,3 +44,11 @@ no_rows = record { rows = [] }
 -- the rows of weights that were kept for a lane
 abbrev pub kept_rows : List WeightRows → ℕ → List (List ℤ)
 kept_rows ends b = (slice_index_or ends b no_rows).rows
+
+-- no rows of weights of 32 bits
+abbrev pub no_long_rows : LongWeightRows
+no_long_rows = record { rows = [] }
+
+-- the rows of weights of 32 bits that were kept for a lane
+abbrev pub kept_long_rows : List LongWeightRows → ℕ → List (List ℤ)
+kept_long_rows ends b = (slice_index_or ends b no_long_rows).rows

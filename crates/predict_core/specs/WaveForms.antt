@@ -2,6 +2,8 @@
 use Rattle.std.specs.Prelude.{ℕ, ℤ, Bool}
 use Rattle.predict_core.specs.declared.wave.form.Form.{Form}
 use Rattle.predict_core.specs.declared.wave.long.form.LongForm.{LongForm}
+use Rattle.predict_core.specs.declared.wave.width.Width.{Width}
+use Rattle.predict_core.specs.declared.wave.width.Width.TheVariants.{Narrow, Long}
 
 -- whether the mode is reduced, and the sums are of columns; the greatest numbers of previous bands, and of pairs of components; the greatest offset; Ω, D, and ρ
 pub record WaveForm : Type 0 where
@@ -39,3 +41,8 @@ long_form f = record {
   bits = f.step.bits;
   exponent = f.step.exponent;
 }
+
+-- in lanes of either width
+unfoldable pub form_in : Width → WaveForm
+form_in (Narrow f) = narrow_form f
+form_in (Long f) = long_form f

@@ -1,5 +1,5 @@
 -- A piece of a row of eight bands that is inverted as a wavefront: the form for it, and what is found.
-use Rattle.std.specs.Prelude.{ℕ, ◌≡◌, ◌+◌, ◌-◌, ◌*◌, ◌^◌, ◌<◌, ◌≤◌, ℤ, pos, ◌+ℤ◌, ◌-ℤ◌, ◌≤ℤ◌, min, nat_lt, List, length, take, if◌then◌else◌}
+use Rattle.std.specs.Prelude.{ℕ, ◌≡◌, ◌+◌, ◌-◌, ◌*◌, ◌^◌, ◌<◌, ◌≤◌, ℤ, pos, ◌+ℤ◌, min, nat_lt, List, [], length, take, slice_index, slice_index_or, if◌then◌else◌}
 use Rattle.header_bits.specs.declared.params.Params.{Params}
 use Rattle.cube_core.specs.Kind.{smin, smax}
 use Rattle.cube_core.specs.Image.{Image}
@@ -10,6 +10,7 @@ use Rattle.sample_prediction.specs.Prediction.{weight_vector}
 use Rattle.sample_prediction.specs.Predictor.{component_count}
 use Rattle.sample_prediction.specs.Weights.{step_exponent}
 use Rattle.sample_prediction.specs.declared.predictor.Predictor.{Predictor}
+use Rattle.predict_core.specs.declared.wave.found.Found.{Found}
 use Rattle.predict_core.specs.Following.{PredictorState}
 use Rattle.predict_core.specs.Inversion.{IsInverting, band_at, number_at}
 use Rattle.predict_core.specs.Largest.{NeverWraps}
@@ -48,14 +49,22 @@ end_column columns origin last b = min (columns - 1) (column_at origin last b)
 abbrev pub rows_at_end : ℕ → (ℕ → List (List ℤ)) → List (List ℤ) → ℕ → List (List ℤ)
 rows_at_end lanes ends weights b = if nat_lt b lanes then ends b else weights
 
--- the lines have the offsets of each band from its first step to step `last`, up to the last column but one, and the rows of weights its weights after them
-pub record AreFound (q : ℕ) (bands : List PredictorState) (c : Image) (first y origin last : ℕ) (lines : List (List ℤ)) (ends : ℕ → List (List ℤ))
-    (weights : List (List ℤ)) : Type 0 where
-  pub within : (b i : ℕ) → b < 8 → i < 64 → (pos 0 ≤ℤ place lines b i) × (place lines b i ≤ℤ (pos (2 ^ c.kind.bits) -ℤ pos 1))
+-- the offset that lane b has found in step i
+abbrev pub offset_in : List (List ℕ) → ℕ → ℕ → ℕ
+offset_in offsets b i = slice_index (slice_index_or offsets b []) i
+
+-- the offsets are those of rows, by step; the first 2·q weights of a lane are those in the rows where it ends
+pub record AreCollected (q lanes : ℕ) (numbers : List (List ℤ)) (ends : ℕ → List (List ℤ)) (weights : List (List ℤ)) (found : Found) : Type 0 where
+  pub offsets_are : (i b : ℕ) → i < 64 → b < 8 → place numbers i b ≡ pos (offset_in found.offsets b i)
+  pub weights_are : (b : ℕ) → b < 8 → take (2 * q) (slice_index_or found.weights b []) ≡ weights_of q b (rows_at_end lanes ends weights b)
+
+-- the offsets of each band are found from its first step to step `last`, up to the last column but one, and its weights after them, among the first 2·q
+pub record AreFound (q : ℕ) (bands : List PredictorState) (c : Image) (first y origin last : ℕ) (found : Found) : Type 0 where
+  pub within : (b i : ℕ) → b < 8 → i < 64 → offset_in found.offsets b i < 2 ^ c.kind.bits
   pub enough : (b : ℕ) → b < 8 → length (band_at bands (first + b)).weights ≤ 2 * q
-  pub weights_in : (b : ℕ) → b < 8 → AllWithin (2 ^ ((band_at bands (first + b)).predictor.omega + 2)) (weights_of q b (rows_at_end (ended c.shape.columns origin last) ends weights b))
-  pub offsets : (p : Params) (d : Image) → IsInverting p c d bands → (b i : ℕ) → b < 8 → first_step origin b ≤ i → i < last → column_at origin i b + 1 < c.shape.columns
-      → place lines b i ≡ pos (number_at d (first + b) y (column_at origin i b))
+  pub weights_in : (b : ℕ) → b < 8 → AllWithin (2 ^ ((band_at bands (first + b)).predictor.omega + 2)) (take (2 * q) (slice_index_or found.weights b []))
+  pub offsets_at : (p : Params) (d : Image) → IsInverting p c d bands → (b i : ℕ) → b < 8 → first_step origin b ≤ i → i < last
+      → column_at origin i b + 1 < c.shape.columns → offset_in found.offsets b i ≡ number_at d (first + b) y (column_at origin i b)
   pub weights_at : (p : Params) (d : Image) → IsInverting p c d bands → (b : ℕ) → b < 8
-      → take (length (band_at bands (first + b)).weights) (weights_of q b (rows_at_end (ended c.shape.columns origin last) ends weights b))
+      → take (length (band_at bands (first + b)).weights) (slice_index_or found.weights b [])
       ≡ weight_vector p d (first + b) (y * c.shape.columns + end_column c.shape.columns origin last b)

@@ -5,15 +5,15 @@ ghost use Rattle.cube_core.specs.Image.{Image, IsPlace};
 ghost use Rattle.header_bits.specs.declared.params.Params.{Params as Parameters};
 ghost use Rattle.predict_core.specs.Precedence.{AreAlike};
 ghost use Rattle.predict_core.specs.Inversion.{IsAtStart, IsCoded, IsInverting, AreAhead, StandAt, AreKeptBeside, band_at};
-ghost use Rattle.predict_core.specs.WaveForms.{narrow_form};
-ghost use Rattle.predict_core.specs.WaveTiles.{IsFormOf, StandAsWave, StandInRow, end_column};
+ghost use Rattle.predict_core.specs.WaveForms.{form_in};
+ghost use Rattle.predict_core.specs.WaveTiles.{IsFormOf, StandAsWave, StandInRow};
 
 use crate::band::Band;
 use crate::mapping::copy_offsets;
-use crate::wave::form::Form;
-use crate::wave::forms::form_of;
-use crate::wave::room::WaveRoom;
-use crate::wave::tile::invert_tile;
+use crate::wave::by_width::invert_by;
+use crate::wave::forms::width_of;
+use crate::wave::rooms::WaveRooms;
+use crate::wave::width::Width;
 use cube_core::cube::Cube;
 
 /// The most bands that are inverted together.
@@ -31,19 +31,25 @@ pub fn invert(bands: &mut [Band], cube: &mut Cube)
     ensures inverted { (p : Parameters) → IsAtStart p cube.old bands.old → IsCoded p cube.old cube.new }
 {
     cube.prove_is_cube();
-    let mut room = WaveRoom::new();
+    let mut rooms = WaveRooms::new();
     let count = bands.len();
     let mut first = 0;
     while first < count {
         let last = count.min(first + MOST);
-        invert_group(bands, first, last, cube, &mut room);
+        invert_group(bands, first, last, cube, &mut rooms);
         first = last;
     }
     cube.prove_is_cube();
 }
 
 /// Inverts the bands `first..last`, row after row. Those below them are inverted.
-fn invert_group(bands: &mut [Band], first: usize, last: usize, cube: &mut Cube, room: &mut WaveRoom)
+fn invert_group(
+    bands: &mut [Band],
+    first: usize,
+    last: usize,
+    cube: &mut Cube,
+    rooms: &mut WaveRooms,
+)
     requires inverting { (p : Parameters) × (d : Image) × IsInverting p cube.old d bands.old }
     requires order { (first ≤ last) × (last ≤ length bands.old) }
     requires start { StandAt bands.old first last 0 }
@@ -55,18 +61,18 @@ fn invert_group(bands: &mut [Band], first: usize, last: usize, cube: &mut Cube, 
     ensures others { AreKeptBeside bands.old bands.new first last }
 {
     for y in 0..cube.shape().rows() {
-        invert_rows(bands, first, last, cube, y, room);
+        invert_rows(bands, first, last, cube, y, rooms);
     }
 }
 
-/// Inverts row `y` of the bands `first..last`: eight of them as a wavefront where lanes of 16 bits are exact, and else one after another.
+/// Inverts row `y` of the bands `first..last`: eight of them as a wavefront where lanes are exact, and else one after another.
 fn invert_rows(
     bands: &mut [Band],
     first: usize,
     last: usize,
     cube: &mut Cube,
     y: u32,
-    room: &mut WaveRoom,
+    rooms: &mut WaveRooms,
 )
     requires inverting { (p : Parameters) × (d : Image) × IsInverting p cube.old d bands.old }
     requires order { (first ≤ last) × (last ≤ length bands.old) }
@@ -81,8 +87,8 @@ fn invert_rows(
 {
     cube.prove_is_cube();
     if last - first == MOST && y > 0 {
-        if let Some(form) = form_of(&bands[first], y) {
-            invert_wave(bands, first, cube, y, form, room);
+        if let Some(form) = width_of(&bands[first], y) {
+            invert_wave(bands, first, cube, y, form, rooms);
             return;
         }
     }
@@ -97,8 +103,8 @@ fn invert_wave(
     first: usize,
     cube: &mut Cube,
     y: u32,
-    form: Form,
-    room: &mut WaveRoom,
+    form: Width,
+    rooms: &mut WaveRooms,
 )
     requires inverting { (p : Parameters) × (d : Image) × IsInverting p cube.old d bands.old }
     requires eight { first + 8 ≤ length bands.old }
@@ -106,7 +112,7 @@ fn invert_wave(
     requires columns { 16 ≤ cube.old.shape.columns }
     requires start { StandAt bands.old first (first + 8) (y * cube.old.shape.columns) }
     requires ahead { AreAhead bands.old first ((y + 1) * cube.old.shape.columns) }
-    requires form { IsFormOf (narrow_form form) (band_at bands.old first).predictor cube.old y }
+    requires form { IsFormOf (form_in form) (band_at bands.old first).predictor cube.old y }
     ensures inverted { (p : Parameters) (d : Image) → IsInverting p cube.old d bands.old → IsInverting p cube.new d bands.new }
     ensures alike { AreAlike cube.old cube.new }
     ensures many { length bands.new ≡ length bands.old }
@@ -114,7 +120,7 @@ fn invert_wave(
     ensures others { AreKeptBeside bands.old bands.new first (first + 8) }
 {
     start_wave(bands, first, cube, y);
-    invert_tiles(bands, first, cube, y, form, room);
+    invert_tiles(bands, first, cube, y, form, rooms);
     end_wave(bands, first, cube, y);
 }
 
@@ -173,8 +179,8 @@ fn invert_tiles(
     first: usize,
     cube: &mut Cube,
     y: u32,
-    form: Form,
-    room: &mut WaveRoom,
+    form: Width,
+    rooms: &mut WaveRooms,
 )
     requires inverting { (p : Parameters) × (d : Image) × IsInverting p cube.old d bands.old }
     requires eight { first + 8 ≤ length bands.old }
@@ -182,7 +188,7 @@ fn invert_tiles(
     requires columns { 16 ≤ cube.old.shape.columns }
     requires stand { StandAsWave bands.old first cube.old.shape.columns y 0 }
     requires ahead { AreAhead bands.old first ((y + 1) * cube.old.shape.columns) }
-    requires form { IsFormOf (narrow_form form) (band_at bands.old first).predictor cube.old y }
+    requires form { IsFormOf (form_in form) (band_at bands.old first).predictor cube.old y }
     ensures inverted { (p : Parameters) (d : Image) → IsInverting p cube.old d bands.old → IsInverting p cube.new d bands.new }
     ensures alike { AreAlike cube.old cube.new }
     ensures many { length bands.new ≡ length bands.old }
@@ -195,7 +201,7 @@ fn invert_tiles(
     // All bands end in one piece, the last: its 63 steps are enough for it.
     while origin + 50 < columns {
         let last = 63.min(columns + 6 - origin);
-        if !invert_by(bands, first, cube, y, origin, last, form, room) {
+        if !invert_by(bands, first, cube, y, origin, last, form, rooms) {
             return;
         }
         origin += last - 8;
@@ -208,45 +214,8 @@ fn invert_tiles(
         origin,
         columns + 13 - origin,
         form,
-        room,
+        rooms,
     );
-}
-
-/// `invert_tile` with as many pairs as hold the components.
-fn invert_by(
-    bands: &mut [Band],
-    first: usize,
-    cube: &mut Cube,
-    y: u32,
-    origin: usize,
-    last: usize,
-    form: Form,
-    room: &mut WaveRoom,
-) -> bool
-    requires inverting { (p : Parameters) × (d : Image) × IsInverting p cube.old d bands.old }
-    requires eight { first + 8 ≤ length bands.old }
-    requires row { (0 < y) × (y < cube.old.shape.rows) }
-    requires last { (8 ≤ last) × (last ≤ 63) }
-    requires begun { (origin ≡ 0 → 15 ≤ last) × (0 < origin → 7 ≤ origin) }
-    requires inside { (16 ≤ cube.old.shape.columns) × (origin + 2 ≤ cube.old.shape.columns) × (origin + last ≤ cube.old.shape.columns + 13) }
-    requires stand { StandAsWave bands.old first cube.old.shape.columns y origin }
-    requires ahead { AreAhead bands.old first ((y + 1) * cube.old.shape.columns) }
-    requires form { IsFormOf (narrow_form form) (band_at bands.old first).predictor cube.old y }
-    ensures inverted { (p : Parameters) (d : Image) → IsInverting p cube.old d bands.old → IsInverting p cube.new d bands.new }
-    ensures alike { AreAlike cube.old cube.new }
-    ensures many { length bands.new ≡ length bands.old }
-    ensures moved { result ≡ true → (b : ℕ) → b < 8 → (band_at bands.new (first + b)).t ≡ y * cube.old.shape.columns + end_column cube.old.shape.columns origin last b }
-    ensures kept { result ≡ false → bands.new ≡ bands.old }
-    ensures others { AreKeptBeside bands.old bands.new first (first + 8) }
-{
-    match form.pairs {
-        0 | 1 => invert_tile::<1>(bands, first, cube, y, origin, last, form, room),
-        2 => invert_tile::<2>(bands, first, cube, y, origin, last, form, room),
-        3 => invert_tile::<3>(bands, first, cube, y, origin, last, form, room),
-        4 => invert_tile::<4>(bands, first, cube, y, origin, last, form, room),
-        5 => invert_tile::<5>(bands, first, cube, y, origin, last, form, room),
-        _ => invert_tile::<9>(bands, first, cube, y, origin, last, form, room),
-    }
 }
 
 /// Inverts row `y` of band `z` from column `x` on.

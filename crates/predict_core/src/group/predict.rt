@@ -146,7 +146,7 @@ pub(crate) fn is_narrow(settings: &Settings) -> bool
 }
 
 /// Returns whether the register has room for the greatest sum that a band with the most components can make.
-fn never_wraps(settings: &Settings) -> bool
+pub(crate) fn never_wraps(settings: &Settings) -> bool
     ensures { result ≡ true → (z : ℕ) → NeverWraps settings.now.predictor settings.now.range.bits (component_count settings.now.predictor z) }
 {
     let predictor = &settings.predictor;

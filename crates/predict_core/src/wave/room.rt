@@ -1,5 +1,6 @@
 //! Room for a wavefront.
 
+use crate::wave::found::Found;
 use band_lanes::pairs::{MOST_PAIRS, Pairs};
 
 /// The weights of eight bands, in rows of pairs.
@@ -10,7 +11,7 @@ pub(crate) struct WeightRows {
 
 /// Room for a piece of a row of eight bands, and for what is known of the eight bands below them.
 ///
-/// It takes some 25 KB, so it is made once and used for one piece after another. What it holds between them has no meaning.
+/// It takes some 27 KB, so it is made once and used for one piece after another. What it holds between them has no meaning.
 #[derive(Clone, Copy)]
 pub(crate) struct WaveRoom {
     pub lines: [[i16; 64]; 8],
@@ -23,6 +24,7 @@ pub(crate) struct WaveRoom {
     pub pairs: [Pairs; MOST_PAIRS],
     pub weights: [[i16; 16]; MOST_PAIRS],
     pub ends: [WeightRows; 8],
+    pub found: Found,
 }
 
 impl WaveRoom {
@@ -43,6 +45,7 @@ impl WaveRoom {
             ends: [WeightRows {
                 rows: [[0; 16]; MOST_PAIRS],
             }; 8],
+            found: Found::new(),
         }
     }
 }

@@ -1,8 +1,8 @@
 //! The rows of a wavefront, from the samples of a cube.
 
-ghost use Rattle.std.specs.Prelude.{◌≡◌, ◌≢◌, ◌+◌, ◌-◌, ◌*◌, ◌^◌, ◌<◌, ◌≤◌, ℕ, ℤ, pos, ◌+ℤ◌, ◌-ℤ◌, ◌*ℤ◌, ◌≤ℤ◌, length, slice_index, slice_index_or};
+ghost use Rattle.std.specs.Prelude.{◌≡◌, ◌≢◌, ◌+◌, ◌-◌, ◌*◌, ◌^◌, ◌<◌, ◌≤◌, ℕ, ℤ, pos, ◌+ℤ◌, ◌-ℤ◌, ◌*ℤ◌, ◌≤ℤ◌, length, slice_index};
 ghost use Rattle.cube_core.specs.Image.{IsPlace};
-ghost use Rattle.lanes.specs.Lanes.{place};
+ghost use Rattle.lanes.specs.Lanes.{lane, place};
 ghost use Rattle.predict_core.specs.Inversion.{number_at};
 ghost use Rattle.predict_core.specs.Wave.{AreOffsetRows};
 ghost use Rattle.predict_core.specs.WaveLanes.{column_at};
@@ -78,7 +78,7 @@ fn skew(row: &[u16], origin: usize, back: usize, line: &mut [i16; 64])
     requires origin { origin ≤ 65544 }
     requires columns { length row.now ≤ 65536 }
     requires small { (x : ℕ) → x < length row.now → slice_index row.now x < 2 ^ 12 }
-    ensures { IsSkewed row.now origin back line.new }
+    ensures { IsSkewed row.now origin back (lane line.new) }
 {
     let first = back.saturating_sub(origin);
     let from = origin + first - back;

@@ -5,8 +5,8 @@ ghost use Rattle.cube_core.specs.Image.{Image};
 ghost use Rattle.header_bits.specs.declared.params.Params.{Params as Parameters};
 ghost use Rattle.predict_core.specs.Inversion.{IsInverting, AreAhead, AreKeptBeside, band_at};
 ghost use Rattle.predict_core.specs.Precedence.{AreAlike};
-ghost use Rattle.predict_core.specs.Wave.{kept_rows};
 ghost use Rattle.predict_core.specs.WaveForms.{narrow_form};
+ghost use Rattle.predict_core.specs.WaveRows.{AreFilled};
 ghost use Rattle.predict_core.specs.WaveTiles.{AreFound, IsFormOf, StandAsWave, end_column};
 
 use crate::band::Band;
@@ -14,12 +14,12 @@ use crate::group::weights::fill_weights;
 use crate::settings::Settings;
 use crate::wave::begin::{end_lanes, invert_steps};
 use crate::wave::centrals::fill_centrals;
-use crate::wave::finish::{ended_of, finish_lane};
+use crate::wave::collect::collect;
+use crate::wave::finish::{ended_of, finish_lanes};
 use crate::wave::form::Form;
 use crate::wave::room::WaveRoom;
 use crate::wave::rows::fill_rows;
 use cube_core::cube::Cube;
-use lanes::turn::turn_back;
 
 /// Inverts row `y` of eight bands from step 8 to step `last`, and returns whether 16 bits hold their weights. If not, nothing is inverted.
 ///
@@ -57,7 +57,7 @@ pub(crate) fn invert_tile<const Q: usize>(
     if !invert_lanes::<Q>(bands, first, cube, y, origin, last, form, room) {
         return false;
     }
-    finish_lanes::<Q>(bands, first, cube, y, origin, last, room);
+    finish_lanes::<Q>(bands, first, cube, y, origin, last, &room.found);
     true
 }
 
@@ -82,11 +82,42 @@ fn invert_lanes<const Q: usize>(
     requires stand { StandAsWave bands.now first cube.now.shape.columns y origin }
     requires ahead { AreAhead bands.now first ((y + 1) * cube.now.shape.columns) }
     requires form { IsFormOf (narrow_form form) (band_at bands.now first).predictor cube.now y }
-    ensures { result ≡ true → AreFound Q bands.now cube.now first y origin last room.new.lines (kept_rows room.new.ends) room.new.weights }
+    ensures { result ≡ true → AreFound Q bands.now cube.now first y origin last room.new.found }
 {
     cube.prove_is_cube();
     // The constants of one band are those of all, but for its number.
     let _constants = constants_of(&bands[first]);
+    if !fill_room::<Q>(bands, first, cube, y, origin, form, room) {
+        return false;
+    }
+    let lanes = ended_of(cube, origin, last);
+    if !invert_steps::<Q>(bands, first, origin, last - lanes, form, room) {
+        return false;
+    }
+    end_lanes::<Q>(form, last - lanes, last, room);
+    collect::<Q>(lanes, room);
+    true
+}
+
+/// Fills the rows with what is known before the first step, and returns whether 16 bits hold the weights of the bands.
+fn fill_room<const Q: usize>(
+    bands: &[Band],
+    first: usize,
+    cube: &Cube,
+    y: u32,
+    origin: usize,
+    form: Form,
+    room: &mut WaveRoom,
+) -> bool
+    requires pairs { Q ≤ 9 }
+    requires inverting { (p : Parameters) × (d : Image) × IsInverting p cube.now d bands.now }
+    requires eight { first + 8 ≤ length bands.now }
+    requires row { (0 < y) × (y < cube.now.shape.rows) }
+    requires inside { origin + 2 ≤ cube.now.shape.columns }
+    requires form { IsFormOf (narrow_form form) (band_at bands.now first).predictor cube.now y }
+    ensures { result ≡ true → AreFilled Q (narrow_form form) cube.now bands.now first y origin room.new.above room.new.numbers room.new.lower room.new.own room.new.weights }
+{
+    cube.prove_is_cube();
     if !fill_weights::<Q>(&bands[first..first + 8], &mut room.weights) {
         return false;
     }
@@ -140,52 +171,14 @@ fn invert_lanes<const Q: usize>(
         &mut room.lower,
     );
     fill_centrals(form, 8, &room.numbers, &room.above, &mut room.own);
-    let lanes = ended_of(cube, origin, last);
-    if !invert_steps::<Q>(bands, first, origin, last - lanes, form, room) {
-        return false;
-    }
-    end_lanes::<Q>(form, last - lanes, last, room);
-    turn_back(&room.numbers, &mut room.lines);
     true
 }
 
 /// Returns the constants of a band's predictor.
-fn constants_of(band: &Band) -> Settings
+pub(crate) fn constants_of(band: &Band) -> Settings
     ensures predictor { result.predictor ≡ band.now.predictor }
     ensures kind { result.range.kind ≡ band.now.kind }
     ensures columns { result.columns ≡ band.now.shape.columns }
 {
     band.settings
-}
-
-/// Writes what was found of each of eight bands into the cube, and advances the bands.
-fn finish_lanes<const Q: usize>(
-    bands: &mut [Band],
-    first: usize,
-    cube: &mut Cube,
-    y: u32,
-    origin: usize,
-    last: usize,
-    room: &WaveRoom,
-)
-    requires pairs { Q ≤ 9 }
-    requires inverting { (p : Parameters) × (d : Image) × IsInverting p cube.old d bands.old }
-    requires eight { first + 8 ≤ length bands.old }
-    requires row { y < cube.old.shape.rows }
-    requires last { (8 ≤ last) × (last ≤ 63) }
-    requires begun { (origin ≡ 0 → 15 ≤ last) × (0 < origin → 7 ≤ origin) }
-    requires inside { (16 ≤ cube.old.shape.columns) × (origin + 2 ≤ cube.old.shape.columns) × (origin + last ≤ cube.old.shape.columns + 13) }
-    requires stand { StandAsWave bands.old first cube.old.shape.columns y origin }
-    requires enough { (b : ℕ) → b < 8 → length (band_at bands.old (first + b)).weights ≤ 2 * Q }
-    requires found { AreFound Q bands.old cube.old first y origin last room.now.lines (kept_rows room.now.ends) room.now.weights }
-    ensures inverted { (p : Parameters) (d : Image) → IsInverting p cube.old d bands.old → IsInverting p cube.new d bands.new }
-    ensures alike { AreAlike cube.old cube.new }
-    ensures many { length bands.new ≡ length bands.old }
-    ensures moved { (b : ℕ) → b < 8 → (band_at bands.new (first + b)).t ≡ y * cube.old.shape.columns + end_column cube.old.shape.columns origin last b }
-    ensures others { AreKeptBeside bands.old bands.new first (first + 8) }
-{
-    cube.prove_is_cube();
-    for b in 0..8usize {
-        finish_lane::<Q>(bands, first, b, cube, y, origin, last, room);
-    }
 }

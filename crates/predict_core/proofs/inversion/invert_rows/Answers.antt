@@ -4,10 +4,10 @@ use Rattle.std.proofs.lemmas.Option.{slice_get-get_or, get_or_from_slice_get}
 use Rattle.cube_core.specs.Shape.{Sizes}
 use Rattle.predict_core.specs.GroupRooms.{no_band}
 use Rattle.predict_core.specs.Inversion.{band_at}
-use Rattle.predict_core.proofs.inversion.invert_rows.Goals.{After-form_of}
+use Rattle.predict_core.proofs.inversion.invert_rows.Goals.{After-width_of}
 use Rattle.predict_core.proofs.inversion.invert_rows.Goals as goal
 
-module _ (c : After-form_of) where
+module _ (c : After-width_of) where
   within : c.args.first < length c.args.bands.now
   within = omega (arith, c.requires.order, c.if-last-first-eq-MOST.true)
 
@@ -23,13 +23,13 @@ module _ (c : After-form_of) where
 
 pub invert_wave-requires-clause-columns : goal.invert_wave-requires-clause-columns
 invert_wave-requires-clause-columns c =
-    let d = (goal.at.invert_wave-requires-clause-columns c).After-form_of in
+    let d = (goal.at.invert_wave-requires-clause-columns c).After-width_of in
     let told = rw (here d) at c.in-Some.ensures in
     let same = ap (λ (s : Sizes). s.columns) (shape d) in omega (arith, told.columns, same)
 
 pub invert_wave-requires-clause-form : goal.invert_wave-requires-clause-form
 invert_wave-requires-clause-form c =
-    let d = (goal.at.invert_wave-requires-clause-form c).After-form_of in
+    let d = (goal.at.invert_wave-requires-clause-form c).After-width_of in
     let told = rw (here d) at c.in-Some.ensures in told.form c.args.cube.now (shape d) (kind d)
 
 pub loop-z-preserved : goal.loop-z-preserved

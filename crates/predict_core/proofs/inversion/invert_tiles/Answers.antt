@@ -1,7 +1,7 @@
 use Rattle.std.proofs.Common.{◌≡◌, ◌∙◌, inl, inr, arith, subst, sym, ap}
 use Rattle.std.proofs.lemmas.Bool.{cases_Bool}
 use Rattle.cube_core.specs.Shape.{Sizes}
-use Rattle.predict_core.specs.WaveForms.{narrow_form}
+use Rattle.predict_core.specs.WaveForms.{form_in}
 use Rattle.predict_core.specs.WaveTiles.{IsFormOf}
 use Rattle.predict_core.proofs.WaveEnds.{within_end, within_start}
 use Rattle.predict_core.proofs.WaveForms.{form_same, same_predictor}
@@ -14,7 +14,7 @@ invert_by-requires-clause-inverting c =
 pub invert_by-requires-clause-form : goal.invert_by-requires-clause-form
 invert_by-requires-clause-form c =
     let i = c.requires.inverting in let now = c.loop-origin.invariant.inverted i.0 i.1 i.2 in
-    subst (λ m. IsFormOf (narrow_form c.args.form) m c.loop-origin.cube c.args.y) (same_predictor i.2 now c.args.first (omega (arith, c.requires.eight, i.2.many)))
+    subst (λ m. IsFormOf (form_in c.args.form) m c.loop-origin.cube c.args.y) (same_predictor i.2 now c.args.first (omega (arith, c.requires.eight, i.2.many)))
     (form_same c.loop-origin.cube c.loop-origin.invariant.alike c.requires.form)
 
 pub invert_by-inverted-requires-clause-inverting : goal.invert_by-inverted-requires-clause-inverting
@@ -24,7 +24,7 @@ invert_by-inverted-requires-clause-inverting c =
 pub invert_by-inverted-requires-clause-form : goal.invert_by-inverted-requires-clause-form
 invert_by-inverted-requires-clause-form c =
     let i = c.requires.inverting in let now = c.loop-origin.invariant.inverted i.0 i.1 i.2 in
-    subst (λ m. IsFormOf (narrow_form c.args.form) m c.loop-origin.cube c.args.y) (same_predictor i.2 now c.args.first (omega (arith, c.requires.eight, i.2.many)))
+    subst (λ m. IsFormOf (form_in c.args.form) m c.loop-origin.cube c.args.y) (same_predictor i.2 now c.args.first (omega (arith, c.requires.eight, i.2.many)))
     (form_same c.loop-origin.cube c.loop-origin.invariant.alike c.requires.form)
 
 pub returns-clause-stand : goal.returns-clause-stand

@@ -1,6 +1,6 @@
 use Rattle.std.proofs.Common.{SFits, w32, to_z-of_z, rules}
 use Rattle.predict_core.proofs.GroupLanes.{exponent_least, exponent_most}
-use Rattle.predict_core.proofs.wave.forms.form_at.Goals as goal
+use Rattle.predict_core.proofs.wave.forms.narrow_form_at.Goals as goal
 
 pub new-requires-clause-least : goal.new-requires-clause-least
 new-requires-clause-least c =

@@ -1,12 +1,9 @@
-use Rattle.std.proofs.Common.{◌≡◌, ◌∙◌, ◌+◌, ◌<◌, ℕ, ap, arith, length, take, inl, inr}
+use Rattle.std.proofs.Common.{◌≡◌, ◌∙◌, ◌+◌, ◌<◌, ℕ, [], ap, arith, length, take, slice_index_or, inl, inr}
 use Rattle.std.proofs.lemmas.Bool.{cases_eq}
 use Rattle.cube_core.specs.Shape.{Sizes}
-use Rattle.band_lanes.specs.Rows.{weights_of}
 use Rattle.predict_core.specs.Following.{PredictorState}
 use Rattle.predict_core.specs.Inversion.{band_at}
-use Rattle.predict_core.specs.Wave.{kept_rows}
-use Rattle.predict_core.specs.WaveTiles.{ended, rows_at_end}
-use Rattle.predict_core.proofs.wave.tile.finish_lanes.Goals as goal
+use Rattle.predict_core.proofs.wave.finish.finish_lanes.Goals as goal
 
 pub loop-b-preserved : goal.loop-b-preserved
 loop-b-preserved g c =
@@ -17,9 +14,8 @@ loop-b-preserved g c =
     let columns = ap (λ (s : Sizes). s.columns) kept.alike.shape in
     record {
       inverted = λ p d inv.
-          did.inverted p d (kept.inverted p d inv) (λ i low high right. c.requires.found.offsets p d inv b i fits low high (rw columns right))
-          (ap (λ (v : PredictorState). take (length v.weights) (weights_of g.row.Q b (rows_at_end (ended c.loop-b.cube.shape.columns c.args.origin c.args.last)
-          (kept_rows c.args.room.now.ends) c.args.room.now.weights b))) same
+          did.inverted p d (kept.inverted p d inv) (λ i low high right. c.requires.found.offsets_at p d inv b i fits low high (rw columns right))
+          (ap (λ (v : PredictorState). take (length v.weights) (slice_index_or c.args.found.now.weights b [])) same
           ∙ rw columns at (c.requires.found.weights_at p d inv b fits));
       alike = record { shape = kept.alike.shape ∙ did.alike.shape; kind = kept.alike.kind ∙ did.alike.kind };
       many = did.many ∙ kept.many;

@@ -6,7 +6,7 @@ use Rattle.predict_core.specs.Inversion.{IsInverting, AreKeptBeside, band_at}
 use Rattle.predict_core.specs.Precedence.{AreAlike}
 use Rattle.predict_core.specs.WaveLanes.{first_column}
 use Rattle.predict_core.specs.WaveTiles.{end_column}
-use Rattle.predict_core.proofs.wave.tile.finish_lanes.Given as goal
+use Rattle.predict_core.proofs.wave.finish.finish_lanes.Given as goal
 
 abbrev pub invariant-loop-b : goal.invariant-loop-b
 invariant-loop-b g l = record {

@@ -1,0 +1,73 @@
+//! What lanes of 32 bits have found.
+
+ghost use Rattle.std.specs.Prelude.{◌≡◌, ◌*◌, ◌<◌, ◌≤◌, ℕ, pos, ◌≤ℤ◌, [], take, slice_index, slice_index_or};
+ghost use Rattle.lanes.specs.Lanes.{place};
+ghost use Rattle.band_lanes.specs.Rows.{weights_of};
+ghost use Rattle.predict_core.specs.Wave.{AreOffsetRows, kept_long_rows};
+ghost use Rattle.predict_core.specs.WaveTiles.{AreCollected, offset_in, rows_at_end};
+
+use crate::wave::long::room::{LongWaveRoom, LongWeightRows};
+use crate::wave::long::weights::take_weights;
+use band_lanes::pairs::MOST_PAIRS;
+use sample_prediction::predictor::MOST_COMPONENTS;
+
+/// Collects what eight lanes have found. The first ones, so many as `lanes`, came to the last column before the last step: their weights
+/// are those that were kept.
+pub(crate) fn collect<const Q: usize>(lanes: usize, room: &mut LongWaveRoom)
+    requires few { Q ≤ 9 }
+    requires numbers_in { AreOffsetRows (pos 65535) room.old.numbers }
+    ensures { AreCollected Q lanes room.old.numbers (kept_long_rows room.old.ends) room.old.weights room.new.found }
+{
+    copy_lanes(&room.numbers, &mut room.found.offsets);
+    take_ends::<Q>(lanes, &room.ends, &room.weights, &mut room.found.weights);
+}
+
+/// Writes the numbers of eight lanes.
+fn copy_lanes(numbers: &[[i32; 8]; 64], offsets: &mut [[u16; 64]; 8])
+    requires { AreOffsetRows (pos 65535) numbers.now }
+    ensures { (b i : ℕ) → b < 8 → i < 64 → place numbers.now i b ≡ pos (offset_in offsets.new b i) }
+{
+    for b in 0..8usize {
+        copy_lane(numbers, b, &mut offsets[b]);
+    }
+}
+
+/// Writes the numbers of lane `b`.
+fn copy_lane(numbers: &[[i32; 8]; 64], b: usize, offsets: &mut [u16; 64])
+    requires lane { b < 8 }
+    requires numbers_in { AreOffsetRows (pos 65535) numbers.now }
+    ensures { (i : ℕ) → i < 64 → place numbers.now i b ≡ pos (slice_index offsets.new i) }
+{
+    for i in 0..64usize {
+        offsets[i] = numbers[i][b] as u16;
+    }
+}
+
+/// Writes the weights of each lane where it ends.
+fn take_ends<const Q: usize>(
+    lanes: usize,
+    ends: &[LongWeightRows; 8],
+    weights: &[[i32; 16]; MOST_PAIRS],
+    taken: &mut [[i32; MOST_COMPONENTS]; 8],
+)
+    requires few { Q ≤ 9 }
+    ensures { (b : ℕ) → b < 8 → take (2 * Q) (slice_index_or taken.new b []) ≡ weights_of Q b (rows_at_end lanes (kept_long_rows ends.now) weights.now b) }
+{
+    for b in 0..8usize {
+        let rows = end_of_lane(lanes, ends, weights, b);
+        take_weights::<Q>(rows, b, &mut taken[b]);
+    }
+}
+
+/// Returns the rows that hold the weights of lane `b` where it ends: those that were kept for it, if it is one of the first `lanes`.
+fn end_of_lane<'a>(
+    lanes: usize,
+    ends: &'a [LongWeightRows; 8],
+    weights: &'a [[i32; 16]; MOST_PAIRS],
+    b: usize,
+) -> &'a [[i32; 16]; MOST_PAIRS]
+    requires { b < 8 }
+    ensures { result.now ≡ rows_at_end lanes (kept_long_rows ends.now) weights.now b }
+{
+    if b < lanes { &ends[b].rows } else { weights }
+}
