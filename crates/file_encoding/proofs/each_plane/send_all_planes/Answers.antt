@@ -1,7 +1,6 @@
-use Rattle.std.proofs.Common.{◌≡◌, ◌≤◌, ◌<◌, ◌+◌, ◌*◌, ℕ, List, ◌∷◌, [], ◌++◌, length, take, get_or, ap, ap₂, refl, sym, arith, ◌∙◌}
+use Rattle.std.proofs.Common.{◌≡◌, ◌<◌, ◌+◌, ◌*◌, ℕ, List, ◌∷◌, [], ◌++◌, length, take, get_or, ap, ap₂, refl, sym, arith, ◌∙◌}
 use Rattle.std.specs.List.{flat_map}
 use Rattle.std.proofs.lemmas.List.{length-map}
-use Rattle.cube_core.specs.Order.{upto}
 use Rattle.file_encoding.specs.Own.{row_of, rows_of}
 use Rattle.file_encoding.specs.Pieces.{row_start}
 use Rattle.file_encoding.specs.Walks.{bands_of}

@@ -1,4 +1,4 @@
-use Rattle.std.proofs.Common.{rules, ◌≡◌, ◌*◌, ◌≤◌, vec_len}
+use Rattle.std.proofs.Common.{rules, ◌*◌, ◌≤◌, vec_len}
 use Rattle.file_encoding.proofs.walk.room_of_planes.Goals as goal
 
 pub returns-then-eq : goal.returns-then-eq
