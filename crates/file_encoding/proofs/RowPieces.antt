@@ -1,5 +1,5 @@
 -- Pieces of a row, one after another.
-use Rattle.std.proofs.Common.{◌≡◌, ◌+◌, ◌*◌, ◌<◌, ◌≤◌, ℕ, List, [], ◌∷◌, ◌++◌, length, map, take, drop, get_or, refl, sym, ap, ap₂, ◌∙◌}
+use Rattle.std.proofs.Common.{◌≡◌, ◌+◌, ◌-◌, ◌*◌, ◌<◌, ◌≤◌, ℕ, List, [], ◌∷◌, ◌++◌, length, map, take, drop, get_or, refl, sym, ap, ap₂, ◌∙◌}
 use Rattle.std.proofs.Common.{get_or-take, append-nil, length-drop, arith}
 use Rattle.std.specs.List.{flat_map, AllZip}
 use Rattle.std.proofs.lemmas.Grind.{flat_map-append}
@@ -8,7 +8,8 @@ use Rattle.std.proofs.lemmas.Nat.{mul-le}
 use Rattle.std.proofs.lemmas.Slice.{take-put_mid}
 use borrow.Rule.Slice.PartMut.{put_mid}
 use Rattle.std.proofs.lemmas.List.{take-map, drop-map, length-take, length-take-le}
-use Rattle.std.proofs.lemmas.List.{length-map, get_or-map, take_at}
+use Rattle.std.proofs.lemmas.List.{length-map, get_or-map, take_at, take_all, map-append, length-append}
+use Rattle.std.proofs.Math.Seq.{take-add}
 use Rattle.cube_core.specs.Image.{Image}
 use Rattle.cube_core.specs.Order.{from, upto}
 use Rattle.cube_core.proofs.Lists.{get_or-from, length-from}
@@ -141,3 +142,39 @@ places_more bands first k n many count room numbers long all lt is done =
     take-put_mid (k * many) n room numbers ((k + 1) * many) end (omega (arith, within, all))
     ∙ ap₂ (λ a b. a ++ b) done (is ∙ sym (append-nil (held_at bands (first + k))))
     ∙ sym (flat_map-append (λ i. held_at bands i) (from first k) ((first + k) ∷ [])) ∙ ap (flat_map (λ i. held_at bands i)) (sym (from_split first k 1))
+
+-- the residuals of one place of some more bands, after those of the bands before them
+pub bands_more : (bands : List PredictorState) (i a n many : ℕ) (room numbers : List ℕ) → a ≤ length room → a + many ≤ length bands
+    → numbers ≡ held_at (take many (drop a bands)) i → take a room ≡ held_at (take a bands) i
+    → take (a + many) (put_mid a n room numbers) ≡ held_at (take (a + many) bands) i
+bands_more bands i a n many room numbers fits inside is done =
+    let long : length numbers ≡ many = ap (λ (ns : List ℕ). length ns) is ∙ length-map (take many (drop a bands)) (λ b. get_or b.piece i 0)
+    ∙ length-take-le many (drop a bands) (omega (arith, inside, length-drop a bands)) in
+    take-put_mid a n room numbers (a + many) (omega (arith, long)) fits ∙ ap₂ (λ xs ys. xs ++ ys) done is
+    ∙ sym (map-append (λ b. get_or b.piece i 0) (take a bands) (take many (drop a bands))) ∙ ap (λ bs. held_at bs i) (sym (take-add a many bands))
+
+-- and of all bands, once those of the last ones stand at the end
+pub bands_last : (bands : List PredictorState) (i a n : ℕ) (room numbers : List ℕ) → length room ≡ length bands → a ≤ length bands → a + n ≡ length room
+    → numbers ≡ held_at (take (length bands - a) (drop a bands)) i → take a room ≡ held_at (take a bands) i → put_mid a n room numbers ≡ held_at bands i
+bands_last bands i a n room numbers same inside end is done =
+    let long : length numbers ≡ length bands - a = ap (λ (ns : List ℕ). length ns) is ∙ length-map (take (length bands - a) (drop a bands)) (λ b. get_or b.piece i 0)
+    ∙ length-take-le (length bands - a) (drop a bands) (omega (arith, inside, length-drop a bands)) in
+    let all : a + (length bands - a) ≡ length bands = omega (arith, inside) in
+    let spelt : length (put_mid a n room numbers) ≡ length (take a room ++ (numbers ++ drop n (drop a room))) = refl in
+    let most : length (put_mid a n room numbers) ≤ a + (length bands - a) =
+    omega (
+      arith,
+      spelt,
+      length-append (take a room) (numbers ++ drop n (drop a room)),
+      length-append numbers (drop n (drop a room)),
+      length-take a room,
+      length-drop n (drop a room),
+      length-drop a room,
+      long,
+      end,
+      same,
+      inside,
+    ) in
+    sym (take_all (a + (length bands - a)) (put_mid a n room numbers) most)
+    ∙ bands_more bands i a n (length bands - a) room numbers (omega (arith, same, inside)) (omega (arith, inside)) is done
+    ∙ ap (λ bs. held_at bs i) (take_all (a + (length bands - a)) bands (omega (arith, inside)))

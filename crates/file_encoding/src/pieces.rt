@@ -46,8 +46,25 @@ pub(crate) fn predict_pieces(
 
 /// Writes the residuals that some bands hold of place `i` of their pieces, band after band.
 #[inline(always)]
-#[tactic(auto, using(std::proofs::lemmas::List::map_more))]
 fn gather(i: usize, bands: &[Band], residuals: &mut [u16])
+    requires place { i < 64 }
+    requires room { length residuals.old ≡ length bands.now }
+    ensures { residuals.new ≡ held_at bands.now i }
+{
+    let eights = bands.len() / GROUP;
+    for k in 0..eights {
+        let first = k * GROUP;
+        let next = first + GROUP;
+        gather_each(i, &bands[first..next], &mut residuals[first..next]);
+    }
+    let first = eights * GROUP;
+    gather_each(i, &bands[first..], &mut residuals[first..]);
+}
+
+/// `gather`, one after another: of eight bands the compiler makes eight loads and stores, and no loop.
+#[inline(always)]
+#[tactic(auto, using(std::proofs::lemmas::List::map_more))]
+fn gather_each(i: usize, bands: &[Band], residuals: &mut [u16])
     requires place { i < 64 }
     requires room { length residuals.old ≡ length bands.now }
     ensures { residuals.new ≡ held_at bands.now i }
