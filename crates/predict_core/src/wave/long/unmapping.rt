@@ -11,7 +11,9 @@ use sample_prediction::residual::prediction_of as half_of;
 
 /// Returns the offsets of eight samples, from the predicted central differences, the local sums of offsets, and the mapped residuals
 /// (CCSDS 123.0-B-1, "Mapped Prediction Residual").
-#[inline(always)]
+///
+/// It stays a function of its own: where its steps stand among others, the compiler takes the lanes one by one.
+#[inline(never)]
 pub(crate) fn unmapped(
     greatest: i32,
     parts: &[i32; 8],
