@@ -79,6 +79,94 @@ fn skew(row: &[u16], origin: usize, back: usize, b: usize, rows: &mut [[i32; 8];
     let first = back.saturating_sub(origin);
     let from = origin + first - back;
     let count = (64 - first).min(row.len().saturating_sub(from));
+    put_numbers(row, from, first, count, b, rows);
+}
+
+/// Writes `count` numbers of a row, from column `from` on, into lane `b` from step `first` on.
+fn put_numbers(
+    row: &[u16],
+    from: usize,
+    first: usize,
+    count: usize,
+    b: usize,
+    rows: &mut [[i32; 8]; 64],
+)
+    requires lane { b < 8 }
+    requires steps { first + count ≤ 64 }
+    requires columns { 0 < count → from + count ≤ length row.now }
+    requires few { length row.now ≤ 65536 }
+    ensures numbers { (i : ℕ) → i < count → place rows.new (first + i) b ≡ pos (slice_index row.now (from + i)) }
+    ensures others { (i : ℕ) → (first ≤ i → first + count ≤ i) → place rows.new i b ≡ place rows.old i b }
+    ensures lanes { (i k : ℕ) → k ≢ b → place rows.new i k ≡ place rows.old i k }
+{
+    if count < 8 {
+        put_few(row, from, first, count, b, rows);
+    } else {
+        put_eights(row, from, first, count, b, rows);
+    }
+}
+
+/// `put_numbers` of at least eight numbers, eight at a time: the last eight may overlap those before them.
+///
+/// It stays a function of its own: among the steps before it, the compiler finds the places anew.
+#[inline(never)]
+fn put_eights(
+    row: &[u16],
+    from: usize,
+    first: usize,
+    count: usize,
+    b: usize,
+    rows: &mut [[i32; 8]; 64],
+)
+    requires lane { b < 8 }
+    requires many { 8 ≤ count }
+    requires steps { first + count ≤ 64 }
+    requires columns { from + count ≤ length row.now }
+    requires few { length row.now ≤ 65536 }
+    ensures numbers { (i : ℕ) → i < count → place rows.new (first + i) b ≡ pos (slice_index row.now (from + i)) }
+    ensures others { (i : ℕ) → (first ≤ i → first + count ≤ i) → place rows.new i b ≡ place rows.old i b }
+    ensures lanes { (i k : ℕ) → k ≢ b → place rows.new i k ≡ place rows.old i k }
+{
+    for k in 0..(count - 1) / 8 {
+        put_eight(row, from + 8 * k, first + 8 * k, b, rows);
+    }
+    put_eight(row, from + count - 8, first + count - 8, b, rows);
+}
+
+/// Writes eight numbers of a row, from column `from` on, into lane `b` from step `first` on.
+#[inline(always)]
+fn put_eight(row: &[u16], from: usize, first: usize, b: usize, rows: &mut [[i32; 8]; 64])
+    requires lane { b < 8 }
+    requires steps { first + 8 ≤ 64 }
+    requires columns { from + 8 ≤ length row.now }
+    requires few { length row.now ≤ 65536 }
+    ensures numbers { (i : ℕ) → i < 8 → place rows.new (first + i) b ≡ pos (slice_index row.now (from + i)) }
+    ensures others { (i : ℕ) → (first ≤ i → first + 8 ≤ i) → place rows.new i b ≡ place rows.old i b }
+    ensures lanes { (i k : ℕ) → k ≢ b → place rows.new i k ≡ place rows.old i k }
+{
+    for j in 0..8usize {
+        put_number(row[from + j] as i32, first + j, b, rows);
+    }
+}
+
+/// `put_numbers`, a number at a time.
+#[inline(never)]
+fn put_few(
+    row: &[u16],
+    from: usize,
+    first: usize,
+    count: usize,
+    b: usize,
+    rows: &mut [[i32; 8]; 64],
+)
+    requires lane { b < 8 }
+    requires steps { first + count ≤ 64 }
+    requires columns { 0 < count → from + count ≤ length row.now }
+    requires few { length row.now ≤ 65536 }
+    ensures numbers { (i : ℕ) → i < count → place rows.new (first + i) b ≡ pos (slice_index row.now (from + i)) }
+    ensures others { (i : ℕ) → (first ≤ i → first + count ≤ i) → place rows.new i b ≡ place rows.old i b }
+    ensures lanes { (i k : ℕ) → k ≢ b → place rows.new i k ≡ place rows.old i k }
+{
     for i in 0..count {
         put_number(row[from + i] as i32, first + i, b, rows);
     }
