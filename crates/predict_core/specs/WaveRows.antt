@@ -1,5 +1,6 @@
 -- Lines of eight bands, each a column further to the left than the one before, and the rows that they are turned into.
 use Rattle.std.specs.Prelude.{ℕ, ◌≡◌, ◌⊎◌, ◌+◌, ◌-◌, ◌^◌, ◌<◌, ◌≤◌, ℤ, pos, ◌-ℤ◌, ◌*ℤ◌, List, length, slice_index}
+use Rattle.std.specs.Int.{w16, cast_unsigned}
 use Rattle.cube_core.specs.Image.{Image}
 use Rattle.lanes.specs.Lanes.{place}
 use Rattle.predict_core.specs.Following.{PredictorState}
@@ -8,6 +9,10 @@ use Rattle.predict_core.specs.Inversion.{band_at, number_at}
 use Rattle.predict_core.specs.Wave.{AreOffsetRows, AreRowsBelow, sum_at}
 use Rattle.predict_core.specs.WaveForms.{WaveForm}
 use Rattle.predict_core.specs.WaveLanes.{column_at}
+
+-- the number that the 16 bits of z are, read without a sign
+abbrev pub without_sign : ℤ → ℤ
+without_sign z = pos (cast_unsigned w16 z)
 
 -- a line has the numbers of a row from column origin - back on; each of its 64 numbers is one of the row, or 0
 pub record IsSkewed (row : List ℕ) (origin back : ℕ) (line : ℕ → ℤ) : Type 0 where

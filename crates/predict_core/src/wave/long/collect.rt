@@ -1,14 +1,16 @@
 //! What lanes of 32 bits have found.
 
 ghost use Rattle.std.specs.Prelude.{◌≡◌, ◌*◌, ◌<◌, ◌≤◌, ℕ, pos, ◌≤ℤ◌, [], take, slice_index, slice_index_or};
-ghost use Rattle.lanes.specs.Lanes.{place};
+ghost use Rattle.lanes.specs.Lanes.{lane, place};
 ghost use Rattle.band_lanes.specs.Rows.{weights_of};
-ghost use Rattle.predict_core.specs.Wave.{AreOffsetRows, kept_long_rows};
+ghost use Rattle.predict_core.specs.Wave.{AreOffsetRows, AreOffsets, kept_long_rows};
+ghost use Rattle.predict_core.specs.WaveRows.{without_sign};
 ghost use Rattle.predict_core.specs.WaveTiles.{AreCollected, offset_in, rows_at_end};
 
 use crate::wave::long::room::{LongWaveRoom, LongWeightRows};
 use crate::wave::long::weights::take_weights;
 use band_lanes::pairs::MOST_PAIRS;
+use lanes::turn::turn_back;
 use sample_prediction::predictor::MOST_COMPONENTS;
 
 /// Collects what eight lanes have found. The first ones, so many as `lanes`, came to the last column before the last step: their weights
@@ -18,28 +20,51 @@ pub(crate) fn collect<const Q: usize>(lanes: usize, room: &mut LongWaveRoom)
     requires numbers_in { AreOffsetRows (pos 65535) room.old.numbers }
     ensures { AreCollected Q lanes room.old.numbers (kept_long_rows room.old.ends) room.old.weights room.new.found }
 {
-    copy_lanes(&room.numbers, &mut room.found.offsets);
+    narrow_rows(&room.numbers, &mut room.turned);
+    turn_back(&room.turned, &mut room.lines);
+    copy_lines(&room.lines, &mut room.found.offsets);
     take_ends::<Q>(lanes, &room.ends, &room.weights, &mut room.found.weights);
 }
 
-/// Writes the numbers of eight lanes.
-fn copy_lanes(numbers: &[[i32; 8]; 64], offsets: &mut [[u16; 64]; 8])
+/// Writes the numbers of rows of 32 bits into rows of 16 bits, without a sign.
+fn narrow_rows(numbers: &[[i32; 8]; 64], narrow: &mut [[i16; 8]; 64])
     requires { AreOffsetRows (pos 65535) numbers.now }
-    ensures { (b i : ℕ) → b < 8 → i < 64 → place numbers.now i b ≡ pos (offset_in offsets.new b i) }
+    ensures { (i b : ℕ) → i < 64 → b < 8 → place numbers.now i b ≡ without_sign (place narrow.new i b) }
 {
-    for b in 0..8usize {
-        copy_lane(numbers, b, &mut offsets[b]);
+    for i in 0..64usize {
+        let row = narrowed(&numbers[i]);
+        narrow[i] = row;
     }
 }
 
-/// Writes the numbers of lane `b`.
-fn copy_lane(numbers: &[[i32; 8]; 64], b: usize, offsets: &mut [u16; 64])
-    requires lane { b < 8 }
-    requires numbers_in { AreOffsetRows (pos 65535) numbers.now }
-    ensures { (i : ℕ) → i < 64 → place numbers.now i b ≡ pos (slice_index offsets.new i) }
+/// Returns the numbers of a row of 32 bits in 16 bits, without a sign.
+#[inline(always)]
+fn narrowed(numbers: &[i32; 8]) -> [i16; 8]
+    requires { AreOffsets (pos 65535) numbers.now }
+    ensures { (b : ℕ) → b < 8 → lane numbers.now b ≡ without_sign (lane result b) }
+{
+    let mut row = [0i16; 8];
+    for b in 0..8usize {
+        row[b] = (numbers[b] as u16).cast_signed();
+    }
+    row
+}
+
+/// Writes the numbers of eight lines of 16 bits, which have no sign.
+fn copy_lines(lines: &[[i16; 64]; 8], offsets: &mut [[u16; 64]; 8])
+    ensures { (b i : ℕ) → b < 8 → i < 64 → without_sign (place lines.now b i) ≡ pos (offset_in offsets.new b i) }
+{
+    for b in 0..8usize {
+        copy_line(&lines[b], &mut offsets[b]);
+    }
+}
+
+/// Writes the numbers of a line of 16 bits, which have no sign.
+fn copy_line(line: &[i16; 64], offsets: &mut [u16; 64])
+    ensures { (i : ℕ) → i < 64 → without_sign (lane line.now i) ≡ pos (slice_index offsets.new i) }
 {
     for i in 0..64usize {
-        offsets[i] = numbers[i][b] as u16;
+        offsets[i] = line[i].cast_unsigned();
     }
 }
 

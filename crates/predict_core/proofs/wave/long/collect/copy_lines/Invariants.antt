@@ -1,10 +1,11 @@
 use Rattle.std.proofs.Common.{◌≡◌, ◌<◌, ℕ, pos, length}
 use Rattle.lanes.specs.Lanes.{place}
+use Rattle.predict_core.specs.WaveRows.{without_sign}
 use Rattle.predict_core.specs.WaveTiles.{offset_in}
-use Rattle.predict_core.proofs.wave.long.collect.copy_lanes.Given as goal
+use Rattle.predict_core.proofs.wave.long.collect.copy_lines.Given as goal
 
 abbrev pub invariant-loop-b : goal.invariant-loop-b
 invariant-loop-b l = record {
   long : length l.offsets ≡ 8;
-  copied : (b i : ℕ) → b < l.b → i < 64 → place l.numbers i b ≡ pos (offset_in l.offsets b i);
+  copied : (b i : ℕ) → b < l.b → i < 64 → without_sign (place l.lines b i) ≡ pos (offset_in l.offsets b i);
 }
