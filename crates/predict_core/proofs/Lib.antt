@@ -43,6 +43,7 @@ pub mod WaveLanes
 pub mod WaveTiles
 pub mod WaveForms
 pub mod WaveRows
+pub mod WaveLines
 pub mod WaveBegun
 pub mod WaveEnds
 pub mod WaveFound

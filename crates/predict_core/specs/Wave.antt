@@ -37,6 +37,22 @@ AreOffsetRows limit rows = (k b : ℕ) → k < 64 → b < 8 → (pos 0 ≤ℤ pl
 abbrev pub sum_at : Bool → List (List ℤ) → List (List ℤ) → ℕ → ℕ → ℤ
 sum_at column numbers above k b = sum_by column (place numbers (k - 1) b) (place above (k - 1) b) (place above k b) (place above (k + 1) b)
 
+-- line b of eight
+abbrev pub line_of : List (List ℤ) → ℕ → List ℤ
+line_of lines b = slice_index_or lines b []
+
+-- each of 64 places of a line holds a number from 0 to a limit
+abbrev pub AreLineOffsets : ℤ → List ℤ → Type 0
+AreLineOffsets limit line = (i : ℕ) → i < 64 → (pos 0 ≤ℤ lane line i) × (lane line i ≤ℤ limit)
+
+-- each of eight lines holds numbers from 0 to a limit
+abbrev pub AreOffsetLines : ℤ → List (List ℤ) → Type 0
+AreOffsetLines limit lines = (b : ℕ) → b < 8 → AreLineOffsets limit (line_of lines b)
+
+-- the local sum of offsets at place i of a line, of a line of offsets and that of the row above
+abbrev pub sum_along : Bool → List ℤ → List ℤ → ℕ → ℤ
+sum_along column numbers above i = sum_by column (lane numbers (i - 1)) (lane above (i - 1)) (lane above i) (lane above (i + 1))
+
 -- no rows of weights
 abbrev pub no_rows : WeightRows
 no_rows = record { rows = [] }

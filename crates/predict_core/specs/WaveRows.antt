@@ -20,6 +20,13 @@ pub record IsSkewed (row : List ℕ) (origin back : ℕ) (line : ℕ → ℤ) : 
   pub each : (i : ℕ) → i < 64
       → (line i ≡ pos 0) ⊎ ((x : ℕ) × (x < length row) × (line i ≡ pos (slice_index row x)))
 
+-- line b of eight has at place i the offset at column origin + below + i - 7 - b of row y of the band so many below band first + b, or 0 where there is no such band;
+-- lines before number `least` have numbers without meaning
+pub record AreLinesOf (c : Image) (first below least y origin : ℕ) (lines : List (List ℤ)) : Type 0 where
+  pub numbers : (b i : ℕ) → b < 8 → i < 64 → least ≤ b → below ≤ first + b → 7 + b ≤ origin + below + i → column_at (origin + below) i b < c.shape.columns
+      → place lines b i ≡ pos (number_at c (first + b - below) y (column_at (origin + below) i b))
+  pub none : (b i : ℕ) → b < 8 → i < 64 → first + b < below → place lines b i ≡ pos 0
+
 -- row i of 64 has in lane b the offset at column origin + below + i - 7 - b of row y of the band so many below band first + b, or 0 where there is no such band;
 -- in lanes before number `least` it has numbers without meaning
 pub record AreRowsOf (c : Image) (first below least y origin : ℕ) (rows : List (List ℤ)) : Type 0 where

@@ -52,7 +52,7 @@ fn sums_of_two(a: &[i16; 8], b: &[i16; 8]) -> [i16; 8]
 
 /// Returns the sum of two numbers that are at most 8190.
 #[inline(always)]
-fn sum_of(a: i16, b: i16) -> i16
+pub(crate) fn sum_of(a: i16, b: i16) -> i16
     requires a_in { (pos 0 ≤ℤ a) × (a ≤ℤ pos 8190) }
     requires b_in { (pos 0 ≤ℤ b) × (b ≤ℤ pos 8190) }
     ensures { result ≡ a +ℤ b }
@@ -76,7 +76,7 @@ pub(crate) fn differences(offsets: &[i16; 8], sums: &[i16; 8]) -> [i16; 8]
 
 /// Returns four times an offset, less a local sum.
 #[inline(always)]
-fn difference_of(offset: i16, sum: i16) -> i16
+pub(crate) fn difference_of(offset: i16, sum: i16) -> i16
     requires offset_in { (pos 0 ≤ℤ offset) × (offset ≤ℤ pos 4095) }
     requires sum_in { (pos 0 ≤ℤ sum) × (sum ≤ℤ pos 16380) }
     ensures { result ≡ pos 4 *ℤ offset -ℤ sum }

@@ -15,10 +15,10 @@ pub(crate) struct WeightRows {
 #[derive(Clone, Copy)]
 pub(crate) struct WaveRoom {
     pub lines: [[i16; 64]; 8],
+    pub lines_above: [[i16; 64]; 8],
+    pub central_lines: [[i16; 64]; 8],
     pub numbers: [[i16; 8]; 64],
     pub above: [[i16; 8]; 64],
-    pub lower_numbers: [[i16; 8]; 64],
-    pub lower_above: [[i16; 8]; 64],
     pub lower: [[i16; 8]; 64],
     pub own: [[i16; 8]; 64],
     pub pairs: [Pairs; MOST_PAIRS],
@@ -32,10 +32,10 @@ impl WaveRoom {
     pub(crate) fn new() -> WaveRoom {
         WaveRoom {
             lines: [[0; 64]; 8],
+            lines_above: [[0; 64]; 8],
+            central_lines: [[0; 64]; 8],
             numbers: [[0; 8]; 64],
             above: [[0; 8]; 64],
-            lower_numbers: [[0; 8]; 64],
-            lower_above: [[0; 8]; 64],
             lower: [[0; 8]; 64],
             own: [[0; 8]; 64],
             pairs: [Pairs {

@@ -4,9 +4,9 @@ ghost use Rattle.std.specs.Prelude.{◌≡◌, ◌≢◌, ◌+◌, ◌-◌, ◌*
 ghost use Rattle.cube_core.specs.Image.{IsPlace};
 ghost use Rattle.lanes.specs.Lanes.{lane, place};
 ghost use Rattle.predict_core.specs.Inversion.{number_at};
-ghost use Rattle.predict_core.specs.Wave.{AreOffsetRows};
+ghost use Rattle.predict_core.specs.Wave.{AreOffsetLines, AreOffsetRows};
 ghost use Rattle.predict_core.specs.WaveLanes.{column_at};
-ghost use Rattle.predict_core.specs.WaveRows.{AreRowsOf, IsSkewed};
+ghost use Rattle.predict_core.specs.WaveRows.{AreLinesOf, AreRowsOf, IsSkewed};
 
 use crate::group::band_lines::clear_line;
 use cube_core::cube::Cube;
@@ -33,11 +33,32 @@ pub(crate) fn fill_rows(
     ensures numbers { AreRowsOf cube.now first below least y origin rows.new }
     ensures within { AreOffsetRows (pos (2 ^ cube.now.kind.bits) -ℤ pos 1) rows.new }
 {
+    fill_lines(cube, first, below, least, y, origin, lines);
+    turn(lines, rows);
+}
+
+/// Writes eight lines of 64 numbers: line b has those that `fill_rows` writes into lane b, row after row.
+pub(crate) fn fill_lines(
+    cube: &Cube,
+    first: usize,
+    below: usize,
+    least: usize,
+    y: u32,
+    origin: usize,
+    lines: &mut [[i16; 64]; 8],
+)
+    requires below { below ≤ 8 }
+    requires bands { first + 8 ≤ cube.now.shape.bands }
+    requires row { y < cube.now.shape.rows }
+    requires origin { origin ≤ 65536 }
+    requires bits { cube.now.kind.bits ≤ 12 }
+    ensures numbers { AreLinesOf cube.now first below least y origin lines.new }
+    ensures within { AreOffsetLines (pos (2 ^ cube.now.kind.bits) -ℤ pos 1) lines.new }
+{
     cube.prove_is_cube();
     for b in 0..8usize {
         fill_line(cube, first + b, below, least, y, origin, b, lines);
     }
-    turn(lines, rows);
 }
 
 /// Writes line `b`: that of the band that is `below` bands below band `z`, if b is at least `least`.

@@ -13,13 +13,14 @@ use crate::band::Band;
 use crate::group::weights::fill_weights;
 use crate::settings::Settings;
 use crate::wave::begin::{end_lanes, invert_steps};
-use crate::wave::centrals::fill_centrals;
+use crate::wave::centrals::{fill_central_lines, fill_centrals};
 use crate::wave::collect::collect;
 use crate::wave::finish::{ended_of, finish_lanes};
 use crate::wave::form::Form;
 use crate::wave::room::WaveRoom;
-use crate::wave::rows::fill_rows;
+use crate::wave::rows::{fill_lines, fill_rows};
 use cube_core::cube::Cube;
+use lanes::turn::turn;
 
 /// Inverts row `y` of eight bands from step 8 to step `last`, and returns whether 16 bits hold their weights. If not, nothing is inverted.
 ///
@@ -143,33 +144,12 @@ fn fill_room<const Q: usize>(
     );
     // No component is of a band further below than the previous ones.
     let least = 8 - form.previous;
-    fill_rows(
-        cube,
-        first,
-        8,
-        least,
-        y,
-        origin,
-        &mut room.lines,
-        &mut room.lower_numbers,
-    );
-    fill_rows(
-        cube,
-        first,
-        8,
-        least,
-        y - 1,
-        origin,
-        &mut room.lines,
-        &mut room.lower_above,
-    );
-    fill_centrals(
-        form,
-        63,
-        &room.lower_numbers,
-        &room.lower_above,
-        &mut room.lower,
-    );
+    let lines = &mut room.lines;
+    let above = &mut room.lines_above;
+    fill_lines(cube, first, 8, least, y, origin, lines);
+    fill_lines(cube, first, 8, least, y - 1, origin, above);
+    fill_central_lines(form, least, lines, above, &mut room.central_lines);
+    turn(&room.central_lines, &mut room.lower);
     fill_centrals(form, 8, &room.numbers, &room.above, &mut room.own);
     true
 }

@@ -8,7 +8,8 @@ use Rattle.predict_core.specs.declared.wave.form.Form.{Form}
 use Rattle.predict_core.specs.Following.{PredictorState}
 use Rattle.predict_core.specs.GroupRooms.{no_band}
 use Rattle.predict_core.specs.Inversion.{band_at}
-use Rattle.predict_core.specs.Wave.{AreOffsetRows}
+use Rattle.predict_core.specs.Wave.{AreOffsetLines, AreOffsetRows}
+use Rattle.predict_core.proofs.WaveLines.{centrals_of_lines, rows_of_lines, turned}
 use Rattle.predict_core.proofs.wave.tile.fill_room.Given as given
 use Rattle.predict_core.proofs.wave.tile.fill_room.Goals as goal
 use Rattle.predict_core.proofs.wave.tile.fill_room.Goals.{After-fill_rows-2}
@@ -34,27 +35,36 @@ module _ (g : given.Over) (c : After-fill_rows-2 g) where
   numbers_in : AreOffsetRows c.args.form.greatest c.fill_rows.new.rows
   numbers_in = subst (λ n. AreOffsetRows n c.fill_rows.new.rows) (greatest_is c.args.form _ c.requires.form.bits) c.fill_rows.ensures.within
 
-pub fill_centrals-requires-2-clause-numbers_in : goal.fill_centrals-requires-2-clause-numbers_in
-fill_centrals-requires-2-clause-numbers_in g c = numbers_in g (goal.at.fill_centrals-requires-2-clause-numbers_in g c).After-fill_rows-2
+pub fill_central_lines-requires-clause-numbers_in : goal.fill_central_lines-requires-clause-numbers_in
+fill_central_lines-requires-clause-numbers_in g c =
+    subst (λ n. AreOffsetLines n c.fill_lines.new.lines) (greatest_is c.args.form _ c.requires.form.bits) c.fill_lines.ensures.within
 
-pub fill_centrals-requires-2-clause-above_in : goal.fill_centrals-requires-2-clause-above_in
-fill_centrals-requires-2-clause-above_in g c = above_in g (goal.at.fill_centrals-requires-2-clause-above_in g c).After-fill_rows-2
+pub fill_central_lines-requires-clause-above_in : goal.fill_central_lines-requires-clause-above_in
+fill_central_lines-requires-clause-above_in g c =
+    subst (λ n. AreOffsetLines n c.fill_lines-2.new.lines) (greatest_is c.args.form _ c.requires.form.bits) c.fill_lines-2.ensures.within
+
+pub fill_centrals-requires-clause-numbers_in : goal.fill_centrals-requires-clause-numbers_in
+fill_centrals-requires-clause-numbers_in g c = numbers_in g (goal.at.fill_centrals-requires-clause-numbers_in g c).After-fill_rows-2
+
+pub fill_centrals-requires-clause-above_in : goal.fill_centrals-requires-clause-above_in
+fill_centrals-requires-clause-above_in g c = above_in g (goal.at.fill_centrals-requires-clause-above_in g c).After-fill_rows-2
 
 pub returns : goal.returns
 returns g c said =
     let d = (goal.at.returns g c).After-fill_rows-2 in record {
-      lower_numbers = c.fill_rows-3.new.rows;
-      lower_above = c.fill_rows-4.new.rows;
+      lower_numbers = turned c.fill_lines.new.lines (8 - c.args.form.previous);
+      lower_above = turned c.fill_lines-2.new.lines (8 - c.args.form.previous);
       above_is = c.fill_rows-2.ensures.numbers;
       numbers_is = c.fill_rows.ensures.numbers;
-      lower_numbers_is = c.fill_rows-3.ensures.numbers;
-      lower_above_is = c.fill_rows-4.ensures.numbers;
-      lower_is = c.fill_centrals.ensures.values;
-      own_is = c.fill_centrals-2.ensures.values;
+      lower_numbers_is = rows_of_lines c.fill_lines.ensures.numbers;
+      lower_above_is = rows_of_lines c.fill_lines-2.ensures.numbers;
+      lower_is = centrals_of_lines c.args.form.column c.fill_lines.new.lines c.fill_lines-2.new.lines c.fill_central_lines.new.out c.turn.new.rows
+          (8 - c.args.form.previous) c.fill_central_lines.ensures.values c.fill_central_lines.ensures.none c.turn.ensures;
+      own_is = c.fill_centrals.ensures.values;
       has = λ b fits. c.fill_weights.ensures c.if-not-fill_weights.false b (band_at c.args.bands.now (c.args.first + b)) fits
           (of_eight c.args.bands.now c.args.first b c.requires.eight fits);
       above_in = above_in g d;
       numbers_in = numbers_in g d;
-      lower_in = c.fill_centrals.ensures.below;
-      own_in = c.fill_centrals-2.ensures.below;
+      lower_in = λ k b h m. rw (c.turn.ensures k b h m) (c.fill_central_lines.ensures.below b k m h);
+      own_in = c.fill_centrals.ensures.below;
     }
