@@ -103,9 +103,25 @@ fn skew(row: &[u16], origin: usize, back: usize, line: &mut [i16; 64])
 {
     let first = back.saturating_sub(origin);
     let from = origin + first - back;
+    if first == 0 && row.len() >= from + 64 {
+        // Of this fixed length it is a few moves of vectors.
+        take_numbers(&row[from..from + 64], line);
+        return;
+    }
     let count = (64 - first).min(row.len().saturating_sub(from));
     clear_line(line);
     for i in 0..count {
         line[first + i] = row[from + i] as i16;
+    }
+}
+
+/// Writes 64 numbers of a row.
+fn take_numbers(numbers: &[u16], line: &mut [i16; 64])
+    requires long { length numbers.now ≡ 64 }
+    requires small { (x : ℕ) → x < 64 → slice_index numbers.now x < 2 ^ 12 }
+    ensures { (i : ℕ) → i < 64 → lane line.new i ≡ pos (slice_index numbers.now i) }
+{
+    for i in 0..64usize {
+        line[i] = numbers[i] as i16;
     }
 }
