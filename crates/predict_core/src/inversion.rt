@@ -257,9 +257,33 @@ fn invert_run(bands: &mut [Band], z: usize, cube: &mut Cube, y: u32, x: u32, cou
     ensures others { AreKeptBeside bands.old bands.new z (z + 1) }
 {
     cube.prove_is_cube();
+    if count == 1 {
+        invert_place(bands, z, cube, y, x);
+        return;
+    }
     let mut deltas = [0u16; RUN];
     copy_offsets(cube.row(z as u32, y), x as usize, count, &mut deltas);
     let band = &mut bands[z];
     band.inverse_run(cube, y, x, &deltas[..count]);
+    cube.prove_is_cube();
+}
+
+/// Inverts the place of band `z` at row `y`, column `x`.
+fn invert_place(bands: &mut [Band], z: usize, cube: &mut Cube, y: u32, x: u32)
+    requires inverting { (p : Parameters) × (d : Image) × IsInverting p cube.old d bands.old }
+    requires band { z < length bands.old }
+    requires place { IsPlace cube.old.shape z y x }
+    requires next { (band_at bands.old z).t ≡ y * cube.old.shape.columns + x }
+    requires ahead { AreAhead bands.old z (y * cube.old.shape.columns + x + 1) }
+    ensures inverted { (p : Parameters) (d : Image) → IsInverting p cube.old d bands.old → IsInverting p cube.new d bands.new }
+    ensures alike { AreAlike cube.old cube.new }
+    ensures many { length bands.new ≡ length bands.old }
+    ensures moved { (band_at bands.new z).t ≡ (band_at bands.old z).t + 1 }
+    ensures others { AreKeptBeside bands.old bands.new z (z + 1) }
+{
+    cube.prove_is_cube();
+    let delta = cube.row(z as u32, y)[x as usize];
+    let band = &mut bands[z];
+    band.inverse_into(cube, y, x, delta);
     cube.prove_is_cube();
 }
