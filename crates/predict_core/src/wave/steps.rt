@@ -1,6 +1,6 @@
 //! The steps of a wavefront over a piece of a row.
 
-ghost use Rattle.std.specs.Prelude.{◌≡◌, ◌+◌, ◌^◌, ◌<◌, ◌≤◌, ℕ, true, false, pos, negsuc, ◌≤ℤ◌};
+ghost use Rattle.std.specs.Prelude.{◌≡◌, ◌+◌, ◌^◌, ◌<◌, ◌≤◌, ℕ, true, false, pos, negsuc, ◌≤ℤ◌, take};
 ghost use Rattle.cube_core.specs.Image.{Image};
 ghost use Rattle.header_bits.specs.declared.params.Params.{Params as Parameters};
 ghost use Rattle.band_lanes.specs.Rows.{weights_of};
@@ -68,5 +68,17 @@ pub(crate) fn invert_places<const Q: usize, const RAISED: bool, const LIMITED: b
             &mut working,
         );
     }
-    *weights = working;
+    put_pairs::<Q>(&working, weights);
+}
+
+/// Writes the first `Q` rows of pairs.
+// The compiler then leaves out the others of the copy too.
+#[inline(always)]
+fn put_pairs<const Q: usize>(pairs: &[[i16; 16]; MOST_PAIRS], own: &mut [[i16; 16]; MOST_PAIRS])
+    requires { Q ≤ 9 }
+    ensures { take Q own.new ≡ take Q pairs.now }
+{
+    for k in 0..Q {
+        own[k] = pairs[k];
+    }
 }

@@ -1,5 +1,10 @@
-use Rattle.std.proofs.Common.{◌≡◌, ◌+◌, ◌^◌, arith, subst, sym}
+use Rattle.std.proofs.Common.{◌≡◌, ◌+◌, ◌^◌, ℕ, ℤ, List, take, ap, arith, subst, sym}
+use Rattle.std.specs.List.{flat_map}
+use Rattle.cube_core.specs.Image.{Image}
+use Rattle.header_bits.specs.declared.params.Params.{Params}
+use Rattle.band_lanes.specs.Rows.{pair_of, weights_of}
 use Rattle.sample_prediction.specs.Bounds.{AllWithin}
+use Rattle.predict_core.specs.declared.settings.Settings.{Settings}
 use Rattle.predict_core.specs.WaveLanes.{AreInStep}
 use Rattle.predict_core.proofs.GroupLanes.{updated_within}
 use Rattle.predict_core.proofs.WaveLanes.{step_more}
@@ -17,8 +22,26 @@ loop-k-preserved g c =
           kept.long kept.weights_in (kept.inverted p s d first y origin last n lanes fits begun start);
     }
 
+-- the weights of a band are those of the first rows
+same_weights : (q b : ℕ) (ws vs : List (List ℤ)) → take q ws ≡ take q vs → weights_of q b ws ≡ weights_of q b vs
+unfolding weights_of
+same_weights q b ws vs e = ap (flat_map (pair_of b)) e
+
+same_step : {q first y origin last n k : ℕ} {p : Params} {s : ℕ → Settings} {d : Image} {numbers own ws : List (List ℤ)} (vs : List (List ℤ))
+    → take q vs ≡ take q ws → AreInStep q p s d first y origin last n k numbers own ws → AreInStep q p s d first y origin last n k numbers own vs
+same_step {q = q} {ws = ws} vs e was = record {
+  offsets = was.offsets;
+  residuals = was.residuals;
+  centrals = was.centrals;
+  weights_at = λ b l inside. rw (same_weights q b vs ws e) (was.weights_at b l inside);
+}
+
+pub returns-clause-weights_in : goal.returns-clause-weights_in
+returns-clause-weights_in g c b l = rw (same_weights _ b _ _ c.put_pairs.ensures) (c.loop-k.invariant.weights_in b l)
+
 pub returns-clause-inverted : goal.returns-clause-inverted
 returns-clause-inverted g c p s d first y origin last n lanes fits begun start =
     let done : c.loop-k.k ≡ c.args.stretch.to = (let e = c.loop-k.auto.k-end c.args.stretch.inside.1 in let f = c.loop-k-test.false in omega (arith, e, f)) in
-    subst (λ k. AreInStep g.row.Q p s d first y origin last n k c.loop-k.numbers c.loop-k.own c.loop-k.working) done
-    (c.loop-k.invariant.inverted p s d first y origin last n lanes fits begun start)
+    same_step c.put_pairs.new.own c.put_pairs.ensures
+    (subst (λ k. AreInStep g.row.Q p s d first y origin last n k c.loop-k.numbers c.loop-k.own c.loop-k.working) done
+    (c.loop-k.invariant.inverted p s d first y origin last n lanes fits begun start))
