@@ -7,7 +7,8 @@ ghost use Rattle.predict_core.specs.Wave.{AreRowsBelow, component_in, lagged_in}
 
 use crate::band::first_spectral;
 use band_lanes::pairs::{MOST_PAIRS, Pairs, put_pair};
-use lanes::narrow::{moved, row_of, vector_of};
+use lanes::narrow::{moved, row_of};
+use std::simd::prelude::*;
 
 /// Writes the components of eight bands at step `k` into the first `Q` pairs, at place 0.
 ///
@@ -73,7 +74,27 @@ fn lagged(lower: &[[i16; 8]; 64], own: &[[i16; 8]; 64], k: usize, lag: usize) ->
     requires step { (7 ≤ k) × (k < 64) }
     ensures { (b : ℕ) → b < 8 → lane result b ≡ lagged_in lower.now own.now k lag b }
 {
-    let lower = vector_of(&lower[k - lag]);
-    let own = vector_of(&own[k - lag]);
+    let lower = numbers(&lower[k - lag]);
+    let own = numbers(&own[k - lag]);
     row_of(moved(lower, own, lag))
+}
+
+/// Returns the numbers of a row.
+///
+/// It is one load. Of an array whose last numbers aren't needed clang makes a load of each of the others.
+#[inline(always)]
+fn numbers(row: &[i16; 8]) -> i16x8
+    ensures { result ≡ row.now }
+{
+    // What it says of the row's numbers is all that this is for.
+    let _same = whole(row);
+    i16x8::from_slice(row)
+}
+
+/// Returns a row.
+#[inline(always)]
+fn whole(row: &[i16; 8]) -> [i16; 8]
+    ensures { result ≡ row.now }
+{
+    *row
 }
