@@ -23,4 +23,4 @@ mod settings;
 pub(crate) mod wave;
 mod west;
 
-pub use sample_prediction::{predictor, residual, rows, worked};
+pub use sample_prediction::{handed, predictor, residual, rows, worked};

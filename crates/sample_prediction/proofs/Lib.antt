@@ -1,4 +1,6 @@
 pub mod Directions
+pub mod Walks
+pub mod HandedRows
 pub mod Filling
 pub mod LocalSums
 pub mod Moves

@@ -14,3 +14,5 @@ pub mod Weights
 pub mod Examples
 pub mod Unfold
 pub mod Rows
+pub mod HandedRows
+pub mod Sources

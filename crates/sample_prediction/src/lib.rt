@@ -6,6 +6,7 @@
 
 pub mod differences;
 pub mod exponent;
+pub mod handed;
 pub mod neighbourhood;
 pub mod prediction;
 pub mod predictor;

@@ -1,10 +1,17 @@
 //! The rows of an image that the prediction of one row may read.
 
+mod last_rows;
+mod whole_rows;
+
 ghost use Rattle.std.specs.Prelude.{◌≡◌, ◌-◌, ◌<◌, ◌≤ℤ◌, pos, negsuc, length};
 ghost use Rattle.cube_core.specs.Image.{IsCube, IsPlace, sample_at};
 ghost use Rattle.cube_core.specs.Kind.{IsSample};
 ghost use Rattle.cube_core.specs.Offsets.{AreRowOffsets};
+ghost use Rattle.sample_prediction.specs.HandedRows.{AreLastRows, image_of_rows};
 
+use crate::handed::HandedRows;
+use crate::rows::last_rows::LastRows;
+use crate::rows::whole_rows::WholeRows;
 use cube_core::cube::Cube;
 use cube_core::kind::Kind;
 use cube_core::shape::Shape;
@@ -15,19 +22,23 @@ use std::marker::Model;
 /// The prediction of a sample reads no other rows (CCSDS 123.0-B-1, "Local Sums", "Local Differences").
 #[derive(Drop)]
 pub struct Rows<'a> {
-    cube: &'a Cube,
-    y: u32,
+    source: Source<'a>,
+}
+
+/// Where the rows are: in a cube, or in slices.
+#[derive(Drop)]
+enum Source<'a> {
+    Whole(WholeRows<'a>),
+    Last(LastRows<'a>),
 }
 
 impl<'a> Model for Rows<'a> {
-    ghost use Rattle.std.specs.Prelude.{◌<◌};
     ghost use Rattle.sample_prediction.specs.Rows.{ImageRow};
+    ghost use Rattle.sample_prediction.specs.Sources.{row_in};
 
     ghost Value = { ImageRow };
 
-    ghost view = { λ r. record { image = r.cube.now; y = r.y } };
-
-    ghost invariant = { λ r. r.y < r.cube.now.shape.rows };
+    ghost view = { λ r. row_in r.source };
 }
 
 impl<'a> Rows<'a> {
@@ -37,7 +48,30 @@ impl<'a> Rows<'a> {
         requires { y < cube.now.shape.rows }
         ensures { result ≡ record { image = cube.now; y = y } }
     {
-        Rows { cube, y }
+        Rows {
+            source: Source::Whole(WholeRows::of(cube, y)),
+        }
+    }
+
+    /// Returns row `y` of an image of this shape and kind, of which this row was handed over last, and the row above it.
+    ///
+    /// `present` holds the samples of row y, band after band, and `above` those of row y - 1, or those of row 0 if y is 0; each
+    /// sample stands as its offset from the least sample of the kind.
+    #[inline(always)]
+    pub fn of_last(
+        shape: Shape,
+        kind: Kind,
+        y: u32,
+        present: &'a [u16],
+        above: &'a [u16],
+        handed: &'a HandedRows,
+    ) -> Rows<'a>
+        requires { AreLastRows shape kind handed.now.offsets y present.now above.now }
+        ensures { result ≡ record { image = image_of_rows shape kind handed.now.offsets; y = y } }
+    {
+        Rows {
+            source: Source::Last(LastRows::new(shape, kind, y, present, above, handed)),
+        }
     }
 
     /// The index of the row.
@@ -45,7 +79,10 @@ impl<'a> Rows<'a> {
     pub fn y(&self) -> u32
         ensures { result ≡ self.now.y }
     {
-        self.y
+        match &self.source {
+            Source::Whole(rows) => rows.y(),
+            Source::Last(rows) => rows.y(),
+        }
     }
 
     /// The image's shape.
@@ -53,8 +90,10 @@ impl<'a> Rows<'a> {
     pub fn shape(&self) -> Shape
         ensures { result ≡ self.now.image.shape }
     {
-        let cube = self.cube;
-        cube.shape()
+        match &self.source {
+            Source::Whole(rows) => rows.shape(),
+            Source::Last(rows) => rows.shape(),
+        }
     }
 
     /// The kind of the image's samples.
@@ -62,8 +101,10 @@ impl<'a> Rows<'a> {
     pub fn kind(&self) -> Kind
         ensures { result ≡ self.now.image.kind }
     {
-        let cube = self.cube;
-        cube.kind()
+        match &self.source {
+            Source::Whole(rows) => rows.kind(),
+            Source::Last(rows) => rows.kind(),
+        }
     }
 
     /// Returns the row of band `z`: each sample as its offset from the least sample of the kind.
@@ -73,9 +114,10 @@ impl<'a> Rows<'a> {
         ensures len { length result.now ≡ self.now.image.shape.columns }
         ensures samples { AreRowOffsets self.now.image z self.now.y result.now }
     {
-        let cube = self.cube;
-        cube.prove_is_cube();
-        cube.row(z, self.y)
+        match &self.source {
+            Source::Whole(rows) => rows.row(z),
+            Source::Last(rows) => rows.row(z),
+        }
     }
 
     /// Returns the row above that of band `z`: each sample as its offset from the least sample of the kind. The first row, which
@@ -86,9 +128,10 @@ impl<'a> Rows<'a> {
         ensures len { length result.now ≡ self.now.image.shape.columns }
         ensures samples { AreRowOffsets self.now.image z (self.now.y - 1) result.now }
     {
-        let cube = self.cube;
-        cube.prove_is_cube();
-        cube.row(z, self.y.saturating_sub(1))
+        match &self.source {
+            Source::Whole(rows) => rows.row_above(z),
+            Source::Last(rows) => rows.row_above(z),
+        }
     }
 
     /// Returns the sample of band `z` at column `x` of the row, which are inside the shape.
@@ -99,8 +142,8 @@ impl<'a> Rows<'a> {
         ensures range { IsSample self.now.image.kind result }
         ensures bounds { (negsuc 32767 ≤ℤ result) × (result ≤ℤ pos 65535) }
     {
-        let cube = self.cube;
-        cube.sample(z, self.y, x)
+        let kind = self.kind();
+        kind.sample_of(self.row(z)[x as usize])
     }
 
     /// Lemma: sizes and kind of the image are in range, there is one sample of the kind at each place, and the row is inside the
@@ -110,7 +153,9 @@ impl<'a> Rows<'a> {
         ensures cube { IsCube self.now.image }
         ensures row { self.now.y < self.now.image.shape.rows }
     {
-        let cube = self.cube;
-        cube.prove_is_cube();
+        match &self.source {
+            Source::Whole(rows) => rows.prove_is_row(),
+            Source::Last(rows) => rows.prove_is_row(),
+        }
     }
 }
