@@ -1,5 +1,5 @@
 -- An image of which rows are known: what stands at its places.
-use Rattle.std.proofs.Common.{◌≡◌, ◌+◌, ◌-◌, ◌*◌, ◌/◌, ◌%◌, ◌^◌, ◌<◌, ◌≤◌, ℕ, suc, zero, List, length, take, drop, get_or, map, refl, sym, ap, ◌∙◌, subst, arith}
+use Rattle.std.proofs.Common.{◌≡◌, ◌+◌, ◌-◌, ◌*◌, ◌/◌, ◌%◌, ◌^◌, ◌<◌, ◌≤◌, ℕ, suc, List, length, drop, get_or, map, refl, sym, ap, ◌∙◌, arith}
 use Rattle.std.specs.List.{AllByRecursion}
 use Rattle.std.proofs.lemmas.List.{get_or-map, get_or-take, get_or-drop, length-map, length-take, length-drop, get_or_past}
 use Rattle.std.proofs.lemmas.Nat.{div-mul-add, mod-mul-add, mul-le}
@@ -7,7 +7,7 @@ use Rattle.std.proofs.lemmas.Bool.{cases_lt}
 use Rattle.std.proofs.Common.{inl, inr}
 use Rattle.cube_core.specs.Shape.{Sizes, AreSizes, sample_count}
 use Rattle.cube_core.specs.Kind.{SampleKind, IsKind, sample_of}
-use Rattle.cube_core.specs.Image.{Image, IsCube, IsPlace, index_in, sample_at}
+use Rattle.cube_core.specs.Image.{IsCube, IsPlace, index_in, sample_at}
 use Rattle.cube_core.specs.Offsets.{AreOffsets, AreRowOffsets}
 use Rattle.cube_core.specs.Order.{upto}
 use Rattle.cube_core.proofs.Bounds.{index_below}

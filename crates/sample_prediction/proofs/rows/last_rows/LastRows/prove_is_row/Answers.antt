@@ -1,7 +1,4 @@
-use Rattle.std.proofs.Common.{◌≡◌, ◌<◌, ap, arith}
 use Rattle.std.proofs.lemmas.Nat.{pow_pos}
-use Rattle.cube_core.specs.Shape.{AreSizes}
-use Rattle.sample_prediction.specs.Rows.{ImageRow}
 use Rattle.sample_prediction.specs.HandedRows.{image_of_rows}
 use Rattle.sample_prediction.proofs.HandedRows.{image_is_cube}
 use Rattle.sample_prediction.proofs.rows.last_rows.LastRows.prove_is_row.Goals as goal
