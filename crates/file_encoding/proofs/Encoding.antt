@@ -22,7 +22,7 @@ use Rattle.file_encoding.proofs.Owning.{own_is_part, length-residuals}
 
 -- ---- the bands
 
-own_all : (zs : List ℕ) → own 0 [] zs ≡ zs
+pub own_all : (zs : List ℕ) → own 0 [] zs ≡ zs
 own_all [] = refl
 own_all (z ∷ zs) = ap (λ (ys : List ℕ). z ∷ ys) (own_all zs)
 
@@ -56,7 +56,7 @@ part_all [] (n ∷ ns) e = absurd (omega (arith, e))
 part_all (q ∷ ps) [] e = refl
 part_all (q ∷ ps) (n ∷ ns) e = ap (λ (xs : List ℕ). n ∷ xs) (part_all ps ns (omega (arith, e)))
 
-length-all : (p : Params) (c : Image) → IsOrder p.shape p.order → c.shape ≡ p.shape → length (residuals p c) ≡ sample_count p.shape
+pub length-all : (p : Params) (c : Image) → IsOrder p.shape p.order → c.shape ≡ p.shape → length (residuals p c) ≡ sample_count p.shape
 length-all p c lawful shape = length-residuals p c (subst (λ s. IsOrder s p.order) (sym shape) lawful) ∙ ap sample_count shape
 
 pub all_residuals : (p : Params) (c : Image) → IsOrder p.shape p.order → c.shape ≡ p.shape → own_residuals p c 0 [] p.order ≡ residuals p c

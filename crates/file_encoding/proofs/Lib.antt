@@ -1,3 +1,5 @@
+pub mod ByRows
+pub mod RowSteps
 pub mod Coders
 pub mod Columns
 pub mod Encoding

@@ -1,3 +1,4 @@
+pub mod ByRows
 pub mod Coding
 pub mod CodingLaws
 pub mod Codings

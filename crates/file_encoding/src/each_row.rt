@@ -16,7 +16,7 @@ use predict_core::group::room::GroupRoom;
 use predict_core::rows::Rows;
 
 /// The greatest number of residuals that are kept: seven rows of 2048 columns.
-const ROOM: usize = 14336;
+pub(crate) const ROOM: usize = 14336;
 
 /// Sends the residuals of some bands, row after row, and in each row band after band. Returns false if the taker has
 /// stopped.
@@ -47,7 +47,7 @@ pub(crate) fn send_each_line<T: Taker>(
 ///
 /// As many bands at a time go over their rows side by side as are predicted at once, or as there is room for the rows of.
 #[tactic(auto, using(crate::proofs::Sending::bands_put))]
-fn send_each_row<T: Taker>(
+pub(crate) fn send_each_row<T: Taker>(
     rows: &Rows,
     params: &Params,
     bands: &mut [Band],

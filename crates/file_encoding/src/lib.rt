@@ -8,6 +8,7 @@ pub mod encoder;
 pub mod file_encoder;
 pub mod laws;
 mod pieces;
+pub mod row_encoder;
 mod side_by_side;
 pub mod taker;
 pub mod walk;

@@ -84,7 +84,7 @@ fn count_own(deal: &[u8], predictor: u32, first: u32, end: u32) -> usize
 /// Sends the residuals of a predictor's bands in a row, group after group of bands. Returns false if the
 /// taker has stopped.
 #[tactic(auto, using(crate::proofs::Sending::bands_put))]
-fn send_line<T: Taker>(
+pub(crate) fn send_line<T: Taker>(
     rows: &Rows,
     params: &Params,
     predictor: u32,
