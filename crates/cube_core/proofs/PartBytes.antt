@@ -28,7 +28,7 @@ piece_of f (x ∷ xs) w (suc i) d same lt =
     let further : suc i * w ≡ w + i * w = omega arith in
     rw (further, ← drop-drop (i * w) w (f x ++ flat_map f xs), drop_at (f x) (flat_map f xs) w (same x)) (piece_of f xs w i d same (omega arith))
 
-same_pieces : (n w : ℕ) (xs ys : List ℕ) → length xs ≡ n * w → length ys ≡ n * w → ((i : ℕ) → i < n → take w (drop (i * w) xs) ≡ take w (drop (i * w) ys))
+pub same_pieces : (n w : ℕ) (xs ys : List ℕ) → length xs ≡ n * w → length ys ≡ n * w → ((i : ℕ) → i < n → take w (drop (i * w) xs) ≡ take w (drop (i * w) ys))
     → xs ≡ ys
 same_pieces zero w xs ys long also each = nil_from_length xs (long ∙ omega arith) ∙ sym (nil_from_length ys (also ∙ omega arith))
 same_pieces (suc n) w xs ys long also each =
@@ -42,7 +42,7 @@ same_pieces (suc n) w xs ys long also each =
     further i = omega arith
 
 -- a piece of the front of a list
-front_piece : (i w m : ℕ) (xs : List ℕ) → i * w + w ≤ m → take w (drop (i * w) (take m xs)) ≡ take w (drop (i * w) xs)
+pub front_piece : (i w m : ℕ) (xs : List ℕ) → i * w + w ≤ m → take w (drop (i * w) (take m xs)) ≡ take w (drop (i * w) xs)
 front_piece i w m xs h =
     let split : i * w + (m - i * w) ≡ m = omega arith in
     rw (← split, drop-take (i * w) (m - i * w) xs) (take-take w (m - i * w) (drop (i * w) xs) (omega arith))

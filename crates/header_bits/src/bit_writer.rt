@@ -13,6 +13,9 @@ use std::marker::Model;
 /// The greatest number of bits that a writer holds.
 const MOST_BITS: u64 = 1 << 63;
 
+/// Below this number of bytes, their memory doubles as it grows.
+const DOUBLED: usize = 1 << 24;
+
 /// A number of bytes that leaves two words below `MOST_BITS`.
 const ROOMY: usize = 1 << 59;
 
@@ -206,8 +209,8 @@ impl BitWriter {
     }
 }
 
-/// Reserves room for `more` more bytes. Where there is less, it reserves for at least as many again as there
-/// are, so that bytes that grow bit by bit are seldom moved.
+/// Reserves room for `more` more bytes. Where there is less, it reserves for at least a step's, so that bytes that grow
+/// bit by bit are seldom moved.
 fn grow(bytes: &mut Vec<u8>, more: usize) -> Result<(), AllocError>
     ensures items { bytes.new.items ≡ bytes.old.items }
     ensures len { vec_len bytes.new ≡ vec_len bytes.old }
@@ -222,7 +225,15 @@ fn grow(bytes: &mut Vec<u8>, more: usize) -> Result<(), AllocError>
     if more <= bytes.capacity() - len {
         return Ok(());
     }
-    bytes.reserve_exact(more.max(len))
+    bytes.reserve_exact(more.max(step_after(len)))
+}
+
+/// Returns by how many bytes the memory for `len` bytes grows: as many again, or an eighth of them where they are a large part
+/// of a scene.
+fn step_after(len: usize) -> usize
+    ensures { result ≤ len }
+{
+    if len < DOUBLED { len } else { len / 8 }
 }
 
 /// Returns 64 where there is memory for two words after these bytes, and 0 where there may be less.
