@@ -1,1 +1,3 @@
-mod Streams
+pub mod RowImages
+pub mod RowStreams
+pub mod Streams

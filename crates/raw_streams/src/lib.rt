@@ -3,4 +3,5 @@
 
 mod part;
 pub mod read;
+pub mod rows;
 pub mod write;

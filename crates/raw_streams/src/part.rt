@@ -2,9 +2,10 @@
 
 ghost use Rattle.std.specs.Prelude.{◌≡◌, ◌*◌, ◌<◌, ◌≤◌, ◌^◌};
 ghost use Rattle.cube_core.specs.Layout.{IsLayout};
-ghost use Rattle.cube_core.specs.Parts.{IsPart, part_samples, unit_count};
+ghost use Rattle.cube_core.specs.Parts.{IsPart, first_sample, part_samples, unit_count, unit_of};
+ghost use Rattle.raw_streams.specs.Rows.{InterleavesBands, samples_of_row};
 
-use cube_core::layout::Layout;
+use cube_core::layout::{Layout, RawOrder};
 use cube_core::part::Part;
 use cube_core::shape::Shape;
 
@@ -34,4 +35,33 @@ pub(crate) fn length_of(layout: Layout, shape: Shape, part: Part) -> usize
     ensures { result ≡ part_samples layout shape part * layout.bytes }
 {
     (part.count * layout.unit(shape)) as usize * layout.bytes as usize
+}
+
+/// Returns the part that row `y` of all bands is, where the layout interleaves them.
+pub(crate) fn row_part(layout: Layout, shape: Shape, y: u32) -> Part
+    requires interleaved { InterleavesBands layout.order }
+    requires inside { y < shape.rows }
+    ensures part { IsPart layout shape result }
+    ensures first { first_sample layout shape result ≡ y * samples_of_row shape }
+    ensures samples { part_samples layout shape result ≡ samples_of_row shape }
+{
+    let units = row_units(layout, shape);
+    Part {
+        first: u64::from(y) * u64::from(units),
+        count: u64::from(units),
+    }
+}
+
+/// Returns how many units a row of all bands is, where the layout interleaves them.
+fn row_units(layout: Layout, shape: Shape) -> u32
+    requires { InterleavesBands layout.order }
+    ensures row { result * unit_of layout.order shape ≡ samples_of_row shape }
+    ensures all { shape.rows * result ≡ unit_count layout.order shape }
+    ensures range { result ≤ 65536 }
+{
+    match layout.order {
+        RawOrder::Bsq => unreachable!(),
+        RawOrder::Bil => shape.bands(),
+        RawOrder::Bip => shape.columns(),
+    }
 }

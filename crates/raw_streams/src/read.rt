@@ -83,7 +83,7 @@ fn read_pieces<S: Source>(
 /// Reads the raw bytes of a part.
 ///
 /// Returns `Read` if the source fails; `RawLength` if it ends within the part.
-fn read_bytes<S: Source>(
+pub(crate) fn read_bytes<S: Source>(
     source: &mut S,
     shape: Shape,
     layout: Layout,
@@ -114,7 +114,7 @@ fn read_bytes<S: Source>(
 /// Reads on, where nothing may come any more.
 ///
 /// Returns `Read` if the source fails; `RawLength` if a byte comes.
-fn read_end<S: Source>(
+pub(crate) fn read_end<S: Source>(
     source: &mut S,
     shape: Shape,
     layout: Layout,

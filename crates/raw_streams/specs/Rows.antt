@@ -1,0 +1,65 @@
+-- Rows of all bands in a cube's raw bytes, and why one isn't read.
+use Rattle.std.specs.Prelude.{ℕ, ◌≡◌, ◌⊎◌, ◌+◌, ◌-◌, ◌*◌, ◌<◌, ◌^◌, List, length, slice_index, Option}
+use Rattle.cube_core.specs.declared.fault.Fault.{Fault}
+use Rattle.cube_core.specs.declared.fault.Fault.TheVariants.{RawLength, Read, SampleRange}
+use Rattle.cube_core.specs.declared.layout.Layout.{Layout}
+use Rattle.cube_core.specs.declared.layout.RawOrder.{RawOrder}
+use Rattle.cube_core.specs.declared.layout.RawOrder.TheVariants as raw
+use Rattle.cube_core.specs.Image.{Image, sample_at}
+use Rattle.cube_core.specs.Kind.{SampleKind, sample_of}
+use Rattle.cube_core.specs.Layout.{IsFirstBad}
+use Rattle.cube_core.specs.Shape.{Sizes}
+use Rattle.command_devices.specs.Devices.{Gave, IsEnd, Rose}
+use Rattle.raw_streams.specs.Streams.{length_in, most_read}
+
+-- raw bytes that come row after row, and in each row with all bands
+abbrev pub InterleavesBands : RawOrder → Type 0
+InterleavesBands raw.Bsq = ⊥
+InterleavesBands raw.Bil = Unit {0}
+InterleavesBands raw.Bip = Unit {0}
+
+-- the sizes of one row of all bands
+abbrev pub one_row : Sizes → Sizes
+one_row s = record s { rows = 1 }
+
+-- how many samples it has, and how many raw bytes
+abbrev pub samples_of_row : Sizes → ℕ
+samples_of_row s = s.bands * s.columns
+
+abbrev pub row_bytes : Sizes → Layout → ℕ
+row_bytes s l = samples_of_row s * l.bytes
+
+-- the samples of a cube of one row, band after band, each as its offset s - s_min
+abbrev pub AreBandRows : Image → List ℕ → Type 0
+AreBandRows c offsets = (z x : ℕ) → z < c.shape.bands → x < c.shape.columns
+    → (slice_index offsets (z * c.shape.columns + x) < 2 ^ c.kind.bits)
+    × (sample_at c z 0 x ≡ sample_of c.kind (slice_index offsets (z * c.shape.columns + x)))
+
+-- the source gave the raw bytes of all rows from the y-th on, and is at its end
+abbrev pub GaveRows : Sizes → Layout → ℕ → Option (List ℕ) → Option (List ℕ) → Type 0
+GaveRows s l y left now = (bytes : List ℕ) × Gave left now bytes × (length bytes ≡ (s.rows - y) * row_bytes s l) × IsEnd now
+
+-- why row y isn't read: the source failed, or ended within it; the fault says how many bytes there were with those of the rows before
+abbrev pub IsCutOff : Sizes → Layout → ℕ → Option (List ℕ) → Option (List ℕ) → ℕ → ℕ → Fault → Type 0
+IsCutOff s l y left now failures failures_now fault =
+    ((fault ≡ Read) × Rose failures failures_now)
+    ⊎ ((bytes : List ℕ) × Gave left now bytes × IsEnd now × (length bytes < row_bytes s l) × (failures_now ≡ failures)
+    × (fault ≡ RawLength (length_in s l) (y * row_bytes s l + length bytes)))
+
+-- the source, of which y rows came before, ends too early, or has a byte too many
+abbrev pub IsWrongRest : Sizes → Layout → ℕ → Option (List ℕ) → ℕ → Type 0
+IsWrongRest s l y now had = (IsEnd now × (y * row_bytes s l + had < length_in s l)) ⊎ (y * row_bytes s l + had ≡ most_read s l)
+
+-- why the rows from the y-th on aren't read to the end of the scene
+abbrev pub IsRestRefusal : Sizes → Layout → ℕ → Option (List ℕ) → Option (List ℕ) → ℕ → ℕ → Fault → Type 0
+IsRestRefusal s l y left now failures failures_now fault =
+    ((fault ≡ Read) × Rose failures failures_now)
+    ⊎ ((bytes : List ℕ) × Gave left now bytes × IsWrongRest s l y now (length bytes) × (failures_now ≡ failures)
+    × (fault ≡ RawLength (length_in s l) (y * row_bytes s l + length bytes)))
+
+-- why row y isn't taken: the rest isn't read to the end of the scene; or it is, and this is the first sample, in row y, that isn't of the kind
+abbrev pub IsRowRefusal : Sizes → SampleKind → Layout → ℕ → Option (List ℕ) → Option (List ℕ) → ℕ → ℕ → Fault → Type 0
+IsRowRefusal s k l y left now failures failures_now fault =
+    IsRestRefusal s l y left now failures failures_now fault
+    ⊎ ((bytes : List ℕ) × Gave left now bytes × (length bytes ≡ (s.rows - y) * row_bytes s l) × IsEnd now × (failures_now ≡ failures)
+    × ((i : ℕ) × (fault ≡ SampleRange (y * samples_of_row s + i)) × IsFirstBad k l bytes i))
