@@ -105,6 +105,24 @@ def no_second_copy(room):
             room.expect(f"{name}, expanded to its bytes", room.read("back") == raw, True)
 
 
+def by_rows(room):
+    """Checks that `compress` holds the file and a few rows where raw bytes and order both interleave the bands: at most 0.45 of the raw bytes.
+
+    The scene has a third of its raw bytes left in its file."""
+    columns, rows, bands = shape = (1_024, 2_048, 24)
+    noise = random.Random(16).randbytes(columns * rows * bands).translate(bytes(i % 20 for i in range(256)))
+    raw = bytearray(2 * len(noise))
+    raw[1::2] = noise
+    room.write("raw", bytes(raw))
+    for layout, depth in (("bil", 1), ("bip", bands)):
+        name = f"{shape} by {layout}, row by row"
+        words = [*sizes_of(shape, 2, "sample"), "--layout", layout, "--order", "bi", "--depth", depth]
+        room.expect(name, room.run("compress", *words, "raw", "file", limit=int(0.45 * len(raw)) + (8 << 20)), (0, b"", ""))
+        room.expect(f"{name}: a third", 0.3 < len(room.read("file")) / len(raw) < 0.34, True)
+        room.expect(f"{name}, expanded", room.run("expand", "--layout", layout, "file", "back"), (0, b"", ""))
+        room.expect(f"{name}, expanded to its bytes", room.read("back") == bytes(raw), True)
+
+
 def no_spare_bytes(room):
     """Checks that `expand` gives back what the file's bytes grew by ahead of what came, where that is far more than the file needs.
 
@@ -208,7 +226,7 @@ def great_tables(room):
 def main():
     with tempfile.TemporaryDirectory() as folder:
         room = Room(folder, sys.argv[1] if len(sys.argv) > 1 else PROGRAM)
-        for part in (long_sides, many_samples, no_second_copy, no_spare_bytes, great_refusals, most_samples, great_show, great_tables):
+        for part in (long_sides, many_samples, no_second_copy, by_rows, no_spare_bytes, great_refusals, most_samples, great_show, great_tables):
             part(room)
     print(f"sizes.py: {room.passed} passed, {room.failed} failed")
     return 1 if room.failed else 0

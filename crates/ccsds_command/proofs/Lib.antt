@@ -1,3 +1,4 @@
+mod Rows
 pub mod Inspecting
 pub mod Planned
 pub mod Runs

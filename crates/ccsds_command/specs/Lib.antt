@@ -1,3 +1,4 @@
+pub mod ByRows
 pub mod Command
 pub mod Compress
 pub mod Expand

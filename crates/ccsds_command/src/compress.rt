@@ -9,6 +9,7 @@ ghost use Rattle.command_devices.specs.Devices.{GaveWithin};
 ghost use Rattle.command_devices.specs.Reading.{ToldAsRead};
 ghost use Rattle.command_devices.specs.Writing.{IsWrite};
 
+use crate::by_rows::{file_by_rows, goes_by_rows};
 use coder_pipe::encode::encode_one;
 use command_devices::sink::Sink;
 use command_devices::source::Source;
@@ -64,6 +65,9 @@ fn file_of_source<S: Source>(
     ensures told { IfErr result (ToldAsRead (S.failures source.old) (S.failures source.new)) }
     ensures bounded { GaveWithin (λ _. raw_limit settings.now) (S.left source.old) (S.left source.new) }
 {
+    if goes_by_rows(settings) {
+        return file_by_rows(alloc, source, settings);
+    }
     let cube = read_cube(alloc, source, settings)?;
     encode_one(alloc, &cube, &settings.params)
 }

@@ -1,6 +1,7 @@
 //! The commands: engines over sources and sinks, the settings that words ask for, and what a refusal prints.
 #![tactic(auto)]
 
+mod by_rows;
 pub mod command;
 pub mod compress;
 pub mod expand;

@@ -1,0 +1,20 @@
+use Rattle.std.proofs.Common.{◌≡◌, ◌-◌, ◌≤◌, length}
+use Rattle.file_encoding.specs.ByRows.{IsUnderWay}
+use Rattle.raw_streams.specs.Rows.{one_row, row_bytes, samples_of_row}
+use Rattle.ccsds_command.specs.ByRows.{HasCome}
+use Rattle.ccsds_command.proofs.by_rows.code_rows.Given as goal
+
+abbrev pub invariant-loop-y : goal.invariant-loop-y
+invariant-loop-y g l = record {
+  within : l.y ≤ l.rows;
+  row : (l.row.shape ≡ one_row l.settings.params.shape) × (l.row.kind ≡ l.settings.params.kind);
+  under : IsUnderWay l.settings.params l.encoder;
+  at : l.encoder.y ≡ l.y;
+  bytes : length l.bytes ≡ row_bytes l.settings.params.shape l.settings.layout;
+  samples : length l.samples ≡ samples_of_row l.settings.params.shape;
+  worked : g.S.Source.failures l.source ≡ g.S.Source.failures l.fn.source;
+  come : HasCome l.settings l.encoder (g.S.Source.left l.fn.source) (g.S.Source.left l.source);
+}
+
+abbrev pub decreases-loop-y : goal.decreases-loop-y
+decreases-loop-y g l = l.rows - l.y
