@@ -21,9 +21,10 @@
  *   - each pointer to a table, to bytes or to text has as many readable (where written: writable) items behind it as the number after it
  *     says. Such a pointer may be null where that number is 0;
  *   - nothing that a call writes overlaps anything else that it is given.
- * There is no state between calls: any number of threads may call at once. Memory comes from malloc, two bytes for each sample, and
- * where a scene is coded its file, too, and by band up to seven planes, if they can be had; it is given back before a call returns. No
- * call may be made from a signal handler, nor in the forked child of a process with threads. */
+ * There is no state between calls but that of a ccsds123_encoder: any number of threads may call at once, and one thread makes all calls
+ * of an encoder. Memory comes from malloc, two bytes for each sample, and where a scene is coded its file, too, and by band up to seven
+ * planes, if they can be had; it is given back before a call returns, and what an encoder keeps once that is ended or freed. No call may
+ * be made from a signal handler, nor in the forked child of a process with threads. */
 #ifndef CCSDS123_H
 #define CCSDS123_H
 
@@ -133,7 +134,7 @@ enum ccsds123_fault_number {
     CCSDS123_STOPPED = 17,          /* the same */
     CCSDS123_READ = 18,             /* a file of more than 2^60 bytes */
     CCSDS123_WRITE = 19,            /* of the program's devices; no call of this library is refused for it */
-    CCSDS123_USAGE = 20,            /* of the program's command line; no call of this library is refused for it */
+    CCSDS123_USAGE = 20,            /* rows or the end of an encoder that wasn't begun, or is ended */
     CCSDS123_ROOM = 21,             /* a room is too small; name: which enum ccsds123_room; first: how much is wanted; second: how much there is */
     CCSDS123_STRUCT_SIZE = 22,      /* `size` of the parameters is not one that this library knows; first: the one that it knows; second: `size` */
     CCSDS123_CHOICE = 23            /* name: this enum ccsds123_member has no such value; first: the value */
@@ -261,6 +262,56 @@ int32_t ccsds123_encode(const ccsds123_params *params,
     const int32_t *weights, size_t weight_count, const uint8_t *accumulators, size_t accumulator_count,
     const ccsds123_layout *layout, const uint8_t *raw, size_t raw_length,
     uint8_t *file, size_t file_room, uint64_t *file_length, ccsds123_fault *fault);
+
+/* ---- Encoding row by row */
+
+/* A scene that is coded while its raw bytes come, for scenes that are larger than memory: what is kept is a row, the state of the coder,
+ * and the file so far.
+ *
+ *     ccsds123_encoder encoder = CCSDS123_ENCODER_NONE;
+ *
+ *     if (ccsds123_encoder_begin(&encoder, &params, NULL, 0, NULL, 0, &layout, &fault) != 0) ..
+ *     while (.. read some rows ..)
+ *         if (ccsds123_encoder_rows(&encoder, raw, raw_length, &fault) != 0) ..
+ *     if (ccsds123_encoder_end(&encoder, NULL, 0, &length, &fault) != CCSDS123_ROOM) ..
+ *     file = malloc(fault.first);
+ *     if (ccsds123_encoder_end(&encoder, file, fault.first, &length, &fault) != 0) ..
+ *
+ * Before its first call it has to be CCSDS123_ENCODER_NONE, which is all zeros. After that only these calls write it, and a copy of it may
+ * not be used. One thread makes all calls of an encoder. */
+typedef struct ccsds123_encoder {
+    void *state;      /* the library's own */
+    uint32_t is_open; /* 1 where an encoder was begun and not ended, else 0 */
+} ccsds123_encoder;
+
+#define CCSDS123_ENCODER_NONE { NULL, 0 }
+
+/* Begins a scene with these parameters, whose raw bytes will come in this layout. `params->order` is CCSDS123_ORDER_BI, of any depth, and the
+ * layout's interleave CCSDS123_BIL or CCSDS123_BIP. An encoder that was begun before and not ended is freed.
+ *
+ * Faults: those of `ccsds123_params_check`; CHOICE of the interleave, of the bytes; CHOICE of the order, of the interleave where they aren't
+ * those above; WANT_OF_MEMORY. There is then no encoder. */
+int32_t ccsds123_encoder_begin(ccsds123_encoder *encoder, const ccsds123_params *params,
+    const int32_t *weights, size_t weight_count, const uint8_t *accumulators, size_t accumulator_count,
+    const ccsds123_layout *layout, ccsds123_fault *fault);
+
+/* Takes the raw bytes of the scene's next rows: any number of whole rows of all bands, none included.
+ *
+ * Faults: USAGE where there is no encoder; RAW_LENGTH, of the whole scene and of all bytes that have come with these, where they aren't whole
+ * rows or are more than the scene still wants; WANT_OF_MEMORY; SAMPLE_RANGE, with the index in the whole scene. Each of them frees the
+ * encoder, which is then CCSDS123_ENCODER_NONE. */
+int32_t ccsds123_encoder_rows(ccsds123_encoder *encoder, const uint8_t *raw, size_t raw_length, ccsds123_fault *fault);
+
+/* Ends a scene of which all rows have come. Its file, the one that `ccsds123_encode` writes of all raw bytes together, is written to the
+ * front of `file`, and its length stored in `*file_length`. The encoder is freed, and is then CCSDS123_ENCODER_NONE.
+ *
+ * Faults: USAGE where there is no encoder; RAW_LENGTH where rows are missing; WANT_OF_MEMORY; ROOM of the file. In each case nothing is
+ * written to `file`, and `*file_length` is 0. After ROOM, which tells how much is wanted, the encoder is as it was, and the call can be made
+ * again with more room; each other fault frees the encoder. */
+int32_t ccsds123_encoder_end(ccsds123_encoder *encoder, uint8_t *file, size_t file_room, uint64_t *file_length, ccsds123_fault *fault);
+
+/* Frees an encoder that isn't ended, which is then CCSDS123_ENCODER_NONE. Where there is none, it does nothing. */
+void ccsds123_encoder_free(ccsds123_encoder *encoder);
 
 /* ---- Decoding */
 

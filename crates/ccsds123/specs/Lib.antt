@@ -2,5 +2,9 @@ pub mod Asked
 pub mod Bound
 pub mod Coding
 pub mod Header
+pub mod Held
+pub mod OneRow
 pub mod Params
+pub mod Rows
+pub mod Scenes
 pub mod Told

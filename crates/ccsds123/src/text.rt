@@ -95,7 +95,7 @@ fn fault_of(number: u32, first: u64, second: u64) -> Option<Fault> {
     }
 }
 
-/// Returns a fault of the program's threads, devices and words, none of which a call of the library returns but `Read`.
+/// Returns a fault of the program's threads, devices and words, none of which a call of the library returns but `Read` and `Usage`.
 fn program_fault_of(number: u32, first: u64, second: u64) -> Option<Fault> {
     match number {
         15 => Some(Fault::BadDeal { band: small(first) }),

@@ -1,0 +1,84 @@
+-- A scene that is encoded while its raw bytes come, row after row.
+use Rattle.std.specs.Prelude.{ℕ, ◌≡◌, ◌*◌, ◌^◌, ◌<◌, ◌≤◌, Bool, true, false, List, length, take, Option, None, Some, Ok}
+use Rattle.std.specs.List.{AllByRecursion}
+use Rattle.cube_core.specs.declared.layout.Layout.{Layout}
+use Rattle.cube_core.specs.declared.layout.RawOrder.{RawOrder}
+use Rattle.cube_core.specs.declared.layout.RawOrder.TheVariants as raw
+use Rattle.cube_core.specs.Image.{Image}
+use Rattle.cube_core.specs.Layout.{IsLayout, raw_bytes}
+use Rattle.cube_core.specs.Raw.{IsFound}
+use Rattle.header_bits.specs.declared.params.Params.{Params}
+use Rattle.header_bits.specs.Lawful.{IsLawful}
+use Rattle.sample_prediction.specs.HandedRows.{row_size}
+use Rattle.file_encoding.specs.ByRows.{image_so_far, AreAllRows, IsFileOfRows, IsInterleaved, IsUnderWay}
+use Rattle.ccsds123.specs.Coding.{IsFileOfRaw}
+use Rattle.ccsds123.specs.declared.scene.SceneEncoder.{SceneEncoder}
+use Rattle.ccsds123.specs.declared.scene.Stage.{Stage}
+use Rattle.ccsds123.specs.declared.scene.Stage.TheVariants as stage
+
+-- what an encoder was begun with, and the raw bytes that have come since
+pub record Scene : Type 0 where
+  pub params : Params
+  pub layout : Layout
+  pub raw : List ℕ
+
+-- raw bytes come row after row, and in each row with all bands
+abbrev pub ComesByRows : RawOrder → Type 0
+ComesByRows raw.Bsq = ⊥
+ComesByRows raw.Bil = Unit {0}
+ComesByRows raw.Bip = Unit {0}
+
+-- the bytes of a row of all bands
+abbrev pub row_bytes : Params → Layout → ℕ
+row_bytes p l = row_size p.shape * l.bytes
+
+-- an image that has the rows which have come, and the scene: the image's raw bytes up to the last of these rows
+abbrev pub image_in : SceneEncoder → Image
+image_in s = image_so_far s.params s.handed.offsets
+
+abbrev pub scene_of : SceneEncoder → Scene
+scene_of s = record { params = s.params; layout = s.layout; raw = take (s.rows * row_size s.params.shape * s.layout.bytes) (raw_bytes (image_in s) s.layout) }
+
+-- the rows are being encoded; or all of them were, and this is their file
+abbrev pub IsAtStage : Params → List ℕ → ℕ → Stage → Type 0
+IsAtStage p offsets y (stage.Rows e) = IsUnderWay p e × (e.offsets ≡ offsets) × (e.y ≡ y)
+IsAtStage p offsets y (stage.File file) = (y ≡ p.shape.rows) × IsFileOfRows p offsets file.items
+
+-- all rows were encoded
+abbrev pub IsAllThere : Stage → Type 0
+IsAllThere (stage.Rows e) = AreAllRows e
+IsAllThere (stage.File file) = Unit {0}
+
+-- this is the file of all rows
+abbrev pub IsWrittenAs : Params → List ℕ → Stage → Type 0
+IsWrittenAs p offsets (stage.Rows e) = ⊥
+IsWrittenAs p offsets (stage.File file) = IsFileOfRows p offsets file.items
+
+-- an encoder keeps what it was begun with, and has encoded the rows that have come
+pub record IsOpen (s : SceneEncoder) : Type 0 where
+  pub lawful : IsLawful s.params
+  pub order : IsInterleaved s.params.order
+  pub layout : IsLayout s.layout
+  pub rows : ComesByRows s.layout.order
+  pub few : s.rows ≤ s.params.shape.rows
+  pub size : length s.handed.offsets ≡ s.rows * row_size s.params.shape
+  pub range : AllByRecursion (λ v. v < 2 ^ s.params.kind.bits) s.handed.offsets
+  pub found : IsFound s.params.shape s.params.kind s.layout (scene_of s).raw (s.rows * row_size s.params.shape) (Ok (image_in s))
+  pub stage : IsAtStage s.params s.handed.offsets s.rows s.stage
+
+-- the file is made, and is that of the raw bytes which have come
+abbrev pub IsWrittenFor : Scene → Stage → Type 0
+IsWrittenFor scene (stage.Rows e) = ⊥
+IsWrittenFor scene (stage.File file) = IsFileOfRaw scene.params scene.layout scene.raw file.items
+
+abbrev pub IsWritten : SceneEncoder → Type 0
+IsWritten s = IsWrittenFor (scene_of s) s.stage
+
+abbrev pub is_there : Option SceneEncoder → Bool
+is_there None = false
+is_there (Some s) = true
+
+-- the scene of a handle, if there is one
+abbrev pub told_scene : Option SceneEncoder → Option Scene
+told_scene None = None
+told_scene (Some s) = Some (scene_of s)

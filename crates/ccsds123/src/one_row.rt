@@ -1,0 +1,85 @@
+//! A row of all bands: from its raw bytes to its samples, band after band.
+
+ghost use Rattle.std.specs.Prelude.{◌≡◌, ◌+◌, ◌*◌, ◌<◌, ◌≤◌, ◌^◌, ℕ, length, slice_index, IfOk, IfErr};
+ghost use Rattle.std.specs.List.{AllByRecursion};
+ghost use Rattle.cube_core.specs.Image.{IsCube};
+ghost use Rattle.cube_core.specs.Layout.{IsLayout, IsFirstBad, raw_bytes, HaveBytes};
+ghost use Rattle.cube_core.specs.Raw.{AreSamples};
+ghost use Rattle.cube_core.specs.Shape.{AreSizes, InRange};
+ghost use Rattle.sample_prediction.specs.HandedRows.{row_size};
+ghost use Rattle.ccsds123.specs.OneRow.{AreBandRows, one_row as row_of};
+
+use cube_core::cube::Cube;
+use cube_core::fault::Fault;
+use cube_core::layout::Layout;
+use cube_core::shape::Shape;
+
+/// Returns the shape of one row of all bands.
+pub fn one_row(shape: Shape) -> Shape
+    ensures { result ≡ row_of shape }
+{
+    let (columns, bands) = (shape.columns(), shape.bands());
+    match Shape::new(columns, 1, bands) {
+        Ok(row) => row,
+        Err(_) => unreachable!(),
+    }
+}
+
+/// Returns the number of samples of a row of all bands.
+pub fn row_samples(shape: Shape) -> u64
+    ensures value { result ≡ row_size shape }
+    ensures range { InRange 1 (2 ^ 32) result }
+{
+    u64::from(shape.bands()) * u64::from(shape.columns())
+}
+
+/// Takes the samples of a row of all bands from its raw bytes: band after band, each as its offset from the least sample of the kind.
+/// The cube is of one row, and is the row that was read afterwards.
+///
+/// Returns the index of the first sample that isn't of the kind.
+pub fn read_row(row: Cube, layout: Layout, bytes: &[u8], samples: &mut [u16]) -> Result<Cube, u64>
+    requires layout { IsLayout layout }
+    requires row { row.shape.rows ≡ 1 }
+    requires bytes { length bytes.now ≡ row_size row.shape * layout.bytes }
+    requires samples { length samples.old ≡ row_size row.shape }
+    ensures row { IfOk result (λ c. IsCube c × (c.shape ≡ row.shape) × (c.kind ≡ row.kind) × (raw_bytes c layout ≡ bytes.now)
+        × HaveBytes c layout (row_size row.shape) × AreSamples row.kind layout bytes.now (row_size row.shape) × AreBandRows c samples.new) }
+    ensures long { length samples.new ≡ length samples.old }
+    ensures bad { IfErr result (λ i. IsFirstBad row.kind layout bytes.now i) }
+{
+    let shape = row.shape();
+    match row.read_part(layout, layout.all(shape), bytes) {
+        Ok(row) => {
+            copy_bands(&row, samples);
+            Ok(row)
+        }
+        Err(Fault::SampleRange { index }) => Err(index),
+        Err(_) => unreachable!(),
+    }
+}
+
+/// Copies the samples of a cube of one row, band after band.
+fn copy_bands(row: &Cube, samples: &mut [u16])
+    requires one { row.now.shape.rows ≡ 1 }
+    requires long { length samples.old ≡ row_size row.now.shape }
+    ensures copied { AreBandRows row.now samples.new }
+    ensures long { length samples.new ≡ length samples.old }
+{
+    let columns = row.shape().columns() as usize;
+    let bands = row.shape().bands();
+    let mut z = 0;
+    while z < bands {
+        put_band(samples, z as usize * columns, row.row(z, 0));
+        z += 1;
+    }
+}
+
+/// Replaces samples, from index `at` on, by those of a band's row.
+fn put_band(samples: &mut [u16], at: usize, band: &[u16])
+    requires { at + length band.now ≤ length samples.old }
+    ensures long { length samples.new ≡ length samples.old }
+    ensures put { (i : ℕ) → i < length band.now → slice_index samples.new (at + i) ≡ slice_index band.now i }
+    ensures before { (j : ℕ) → j < at → slice_index samples.new j ≡ slice_index samples.old j }
+{
+    samples[at..at + band.len()].copy_from_slice(band);
+}
