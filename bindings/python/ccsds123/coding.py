@@ -3,7 +3,6 @@
 from __future__ import annotations
 
 import ctypes
-import mmap
 import os
 import sys
 from ctypes import byref, c_uint64
@@ -15,16 +14,14 @@ from .fault import Fault
 from .library import CParams
 from .params import Params
 from .records import c_layout, c_params, c_tables, params_of
+from .rooms import ROOM, room_of
+from .rows import encode_by_rows
 from .samples import address_of, samples_of
 
 HEADER_BYTES = 4 << 20
 """No header is longer."""
 LEAST_ROOM = 1 << 10
 """The entries of tables that there is room for at first."""
-NO_RESERVE = 0x4000 if sys.platform == "linux" else 0
-"""The system's flag that asks for no memory in advance."""
-ROOM = 21
-"""The number of the refusal of a room that is too small."""
 
 
 def encode(
@@ -37,7 +34,8 @@ def encode(
     three dimensions has the shape (bands, rows, columns) with `interleave="bsq"`, (rows, bands, columns) with `"bil"`, (rows, columns, bands) with
     `"bip"`; a buffer of one dimension needs `columns`, `rows` and `bands`. Plain bytes of two for each sample need `byteorder`.
 
-    `bits` are all bits of a sample unless given. `options` are further members of Params; or `params` has all of them, and the sizes.
+    With `order="bi"` and `interleave` `"bil"` or `"bip"`, samples are read once, row by row: a scene that is mapped (`mmap`, `numpy.memmap`) isn't
+    loaded. `bits` are all bits of a sample unless given. `options` are further members of Params; or `params` has all of them, and the sizes.
     Raises Fault where parameters or samples are refused.
     """
     sizes = {"columns": columns, "rows": rows, "bands": bands}
@@ -53,7 +51,10 @@ def encode(
 
 
 def encode_raw(data: Any, params: Params, interleave: str, sample_bytes: int, byteorder: str) -> bytes:
-    """Returns the file of raw bytes that lie as said."""
+    """Returns the file of raw bytes that lie as said. Where order and layout both interleave the bands, the bytes are read row by row and not copied, so
+    that a mapped scene may be larger than memory."""
+    if params.order == "bi" and interleave != "bsq" and memoryview(data).nbytes == params.count * sample_bytes:
+        return encode_by_rows(data, params, interleave, sample_bytes, byteorder)
     given, tables = c_params(params), c_tables(params)
     layout, bound, length = c_layout(interleave, sample_bytes, byteorder), c_uint64(), c_uint64()
     library.call("params_check", byref(given), *tables)
@@ -62,15 +63,6 @@ def encode_raw(data: Any, params: Params, interleave: str, sample_bytes: int, by
         with address_of(room) as (file, file_room):
             library.call("encode", byref(given), *tables, byref(layout), raw, raw_length, file, file_room, byref(length))
         return room[: length.value]
-
-
-def room_of(length: int) -> mmap.mmap:
-    """Returns room for so many bytes, whose pages take memory only once they are written: a file is far shorter than the longest possible, and a
-    damaged header may ask for any size."""
-    try:
-        return mmap.mmap(-1, length, flags=mmap.MAP_PRIVATE | mmap.MAP_ANONYMOUS | NO_RESERVE)
-    except (OSError, OverflowError):
-        raise MemoryError(f"there is no memory for {length} bytes") from None
 
 
 def decode(file: Any, *, interleave: str = "bsq") -> Any:

@@ -45,6 +45,12 @@ class CFault(ctypes.Structure):
     _fields_ = [("number", c_uint32), ("name", c_uint32), ("first", c_int64), ("second", c_int64)]
 
 
+class CEncoder(ctypes.Structure):
+    """`ccsds123_encoder`; one that is made here is none."""
+
+    _fields_ = [("state", c_void_p), ("is_open", c_uint32)]
+
+
 TABLES = [c_void_p, c_size_t, c_void_p, c_size_t]
 """The arguments of the tables of weights and of accumulators, each a pointer and a number of entries."""
 CALLS = {
@@ -52,6 +58,9 @@ CALLS = {
     "bound": [POINTER(CParams), POINTER(c_uint64)],
     "raw_length": [POINTER(CParams), POINTER(CLayout), POINTER(c_uint64)],
     "encode": [POINTER(CParams), *TABLES, POINTER(CLayout), c_void_p, c_size_t, c_void_p, c_size_t, POINTER(c_uint64)],
+    "encoder_begin": [POINTER(CEncoder), POINTER(CParams), *TABLES, POINTER(CLayout)],
+    "encoder_rows": [POINTER(CEncoder), c_void_p, c_size_t],
+    "encoder_end": [POINTER(CEncoder), c_void_p, c_size_t, POINTER(c_uint64)],
     "read_header": [
         c_void_p, c_size_t, POINTER(CParams), c_void_p, c_size_t, POINTER(c_uint64), c_void_p, c_size_t, POINTER(c_uint64), POINTER(c_uint64),
     ],
@@ -92,6 +101,7 @@ def library() -> ctypes.CDLL:
         call.argtypes, call.restype = [*arguments, POINTER(CFault)], c_int32
     found.ccsds123_params_init.argtypes, found.ccsds123_params_init.restype = [POINTER(CParams)], None
     found.ccsds123_fault_text.argtypes, found.ccsds123_fault_text.restype = [POINTER(CFault), c_char_p, c_size_t], c_size_t
+    found.ccsds123_encoder_free.argtypes, found.ccsds123_encoder_free.restype = [POINTER(CEncoder)], None
     found.ccsds123_version.argtypes, found.ccsds123_version.restype = [], c_uint32
     return found
 

@@ -26,7 +26,7 @@ pub fn version() -> (u32, u32, u32) {
 }
 
 /// The result of a call that stores its fault.
-fn answer(call: impl FnOnce(*mut ffi::Fault) -> i32) -> Result<(), Fault> {
+pub(crate) fn answer(call: impl FnOnce(*mut ffi::Fault) -> i32) -> Result<(), Fault> {
     let mut fault = ffi::Fault::default();
     match call(&mut fault) {
         0 => Ok(()),
@@ -60,7 +60,7 @@ impl Params {
 }
 
 /// Room for so many items, or the fault that there is no memory for them.
-fn room_for<T>(count: u64) -> Result<Vec<T>, Fault> {
+pub(crate) fn room_for<T>(count: u64) -> Result<Vec<T>, Fault> {
     let mut room = Vec::new();
     let count = usize::try_from(count).map_err(|_| Fault::WantOfMemory)?;
     room.try_reserve_exact(count).map_err(|_| Fault::WantOfMemory)?;

@@ -1,5 +1,7 @@
 //! The calls of `libccsds123`, as `ccsds123.h` declares and documents them.
 
+use std::ffi::c_void;
+
 #[repr(C)]
 #[derive(Clone, Copy)]
 pub struct Params {
@@ -51,6 +53,12 @@ pub struct Fault {
     pub second: i64,
 }
 
+#[repr(C)]
+pub struct Encoder {
+    pub state: *mut c_void,
+    pub is_open: u32,
+}
+
 extern "C" {
     pub fn ccsds123_version() -> u32;
 
@@ -86,6 +94,23 @@ extern "C" {
         file_length: *mut u64,
         fault: *mut Fault,
     ) -> i32;
+
+    pub fn ccsds123_encoder_begin(
+        encoder: *mut Encoder,
+        params: *const Params,
+        weights: *const i32,
+        weight_count: usize,
+        accumulators: *const u8,
+        accumulator_count: usize,
+        layout: *const Layout,
+        fault: *mut Fault,
+    ) -> i32;
+
+    pub fn ccsds123_encoder_rows(encoder: *mut Encoder, raw: *const u8, raw_length: usize, fault: *mut Fault) -> i32;
+
+    pub fn ccsds123_encoder_end(encoder: *mut Encoder, file: *mut u8, file_room: usize, file_length: *mut u64, fault: *mut Fault) -> i32;
+
+    pub fn ccsds123_encoder_free(encoder: *mut Encoder);
 
     pub fn ccsds123_read_header(
         file: *const u8,

@@ -24,17 +24,19 @@
 //!
 //! [`encode`] and [`decode`] take and return raw bytes in any [`Layout`], as they stand in a file; [`encode_samples`] and [`decode_samples`] work on
 //! slices of numbers. [`read_header`] needs only the first bytes of a file. A refusal is a [`Fault`], which prints the line that the command `ccsds` prints.
-//! No call keeps state: any number of threads may call at once.
+//! [`RowEncoder`] codes a scene while its rows come, without holding it in memory. No other call keeps state: any number of threads may call at once.
 
 mod coding;
 mod fault;
 mod ffi;
 mod layout;
 mod params;
+mod rows;
 mod samples;
 
 pub use coding::{decode, encode, read_header, version, Header};
 pub use fault::{Fault, Field, Member, Room, Rule};
 pub use layout::{Interleave, Layout};
 pub use params::{Coder, Order, Params, Start, WeightTable};
+pub use rows::RowEncoder;
 pub use samples::{decode_samples, encode_samples, Sample};

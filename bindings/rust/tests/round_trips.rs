@@ -1,6 +1,9 @@
 //! What is coded comes back, and what isn't lawful is refused by name.
 
-use ccsds123::{decode, decode_samples, encode, encode_samples, read_header, Coder, Fault, Field, Interleave, Layout, Order, Params, Rule, Start, WeightTable};
+use ccsds123::{
+    decode, decode_samples, encode, encode_samples, read_header, Coder, Fault, Field, Interleave, Layout, Member, Order, Params, RowEncoder, Rule, Start,
+    WeightTable,
+};
 
 const ALL: [Interleave; 3] = [Interleave::Bsq, Interleave::Bil, Interleave::Bip];
 
@@ -126,4 +129,41 @@ fn many_threads_at_once() {
             });
         }
     });
+}
+
+#[test]
+fn rows_give_the_same_file() {
+    for depth in 1..=4 {
+        let params = Params { order: Order::BandInterleaved { depth }, ..Params::new(6, 5, 4, 12) };
+        for interleave in [Interleave::Bil, Interleave::Bip] {
+            let layout = Layout { interleave, bytes: 2, little: true };
+            let raw: Vec<u8> = scene(&params).iter().flat_map(|sample| sample.to_le_bytes()).collect();
+            let mut encoder = RowEncoder::new(&params, layout).unwrap();
+            for rows in raw.chunks(96) {
+                encoder.rows(rows).unwrap();
+            }
+            assert_eq!(encoder.end(), encode(&params, layout, &raw));
+        }
+    }
+}
+
+#[test]
+fn rows_are_refused_by_name() {
+    let layout = Layout { interleave: Interleave::Bil, bytes: 2, little: false };
+    let params = Params { order: Order::BandInterleaved { depth: 1 }, ..Params::new(6, 5, 4, 12) };
+    let begun = || RowEncoder::new(&params, layout).unwrap();
+    assert_eq!(RowEncoder::new(&Params::new(6, 5, 4, 12), layout).err(), Some(Fault::Choice { member: Member::Order, value: 0 }));
+    let bsq = Layout { interleave: Interleave::Bsq, ..layout };
+    assert_eq!(RowEncoder::new(&params, bsq).err(), Some(Fault::Choice { member: Member::Interleave, value: 0 }));
+    let mut encoder = begun();
+    assert_eq!(encoder.rows(&[0; 47]), Err(Fault::RawLength { wanted: 240, had: 47 }));
+    assert_eq!(encoder.rows(&[0; 48]), Err(Fault::Usage));
+    assert_eq!(encoder.end(), Err(Fault::Usage));
+    let mut encoder = begun();
+    assert_eq!(encoder.rows(&[0; 48]), Ok(()));
+    assert_eq!(encoder.end(), Err(Fault::RawLength { wanted: 240, had: 48 }));
+    let mut encoder = begun();
+    assert_eq!(encoder.rows(&[0; 48]), Ok(()));
+    assert_eq!(encoder.rows(&[255; 48]), Err(Fault::SampleRange { index: 24 }));
+    drop(begun());
 }

@@ -1,0 +1,124 @@
+"""Encoding row by row."""
+
+import array
+import gc
+import mmap
+import sys
+import unittest
+
+from support import FolderTest, samples_of
+
+import ccsds123
+
+SIZES = {"columns": 5, "rows": 4, "bands": 3, "bits": 12}
+
+
+def whole_file(depth, **options):
+    """Returns the file of the samples that the tests use, coded from band sequential ones all at once."""
+    return ccsds123.encode(samples_of(5, 4, 3), **SIZES, order="bi", depth=depth, **options)
+
+
+def told(call, *arguments):
+    """Returns the line of the fault that a call raises."""
+    try:
+        call(*arguments)
+    except ccsds123.Fault as fault:
+        return str(fault)
+    return None
+
+
+class Rows(FolderTest):
+    def test_rows_give_the_same_file(self):
+        for depth in (1, 2, 3):
+            for coder in ("sample", "block"):
+                for interleave in ("bil", "bip"):
+                    given = samples_of(5, 4, 3, interleave)
+                    for rows in (1, 2, 3, 4):
+                        with ccsds123.RowEncoder(**SIZES, depth=depth, coder=coder, interleave=interleave) as encoder:
+                            for at in range(0, 60, 15 * rows):
+                                encoder.rows(given[at : at + 15 * rows])
+                            self.assertEqual(encoder.end(), whole_file(depth, coder=coder))
+
+    def test_arrays_of_three_and_of_two_dimensions(self):
+        for interleave, shape in (("bil", (4, 3, 5)), ("bip", (4, 5, 3))):
+            view = memoryview(samples_of(5, 4, 3, interleave)).cast("B").cast("H", shape)
+            with ccsds123.RowEncoder(**SIZES, interleave=interleave) as encoder:
+                encoder.rows(view)
+                self.assertEqual(encoder.end(), whole_file(1))
+            with ccsds123.RowEncoder(**SIZES, interleave=interleave) as encoder:
+                for row in range(4):
+                    encoder.rows(memoryview(view.tobytes()[30 * row : 30 * row + 30]).cast("H", shape[1:]))
+                self.assertEqual(encoder.end(), whole_file(1))
+
+    def test_bytes_in_either_order(self):
+        for byteorder in ("little", "big"):
+            raw = b"".join(it.to_bytes(2, byteorder) for it in samples_of(5, 4, 3, "bil"))
+            with ccsds123.RowEncoder(**SIZES, byteorder=byteorder) as encoder:
+                encoder.rows(raw)
+                self.assertEqual(encoder.end(), whole_file(1))
+        small = array.array("B", (it % 256 for it in samples_of(5, 4, 3, "bip")))
+        with ccsds123.RowEncoder(**{**SIZES, "bits": 8}, interleave="bip") as encoder:
+            encoder.rows(small)
+            self.assertEqual(encoder.end(), ccsds123.encode(small, columns=5, rows=4, bands=3, interleave="bip", order="bi"))
+
+    def test_tables_and_all_parameters(self):
+        params = ccsds123.Params(
+            5, 4, 3, 12, order="bi", depth=2, weights=ccsds123.WeightTable(6, tuple(range(-6, 6))), accumulators=(0, 10, 5), umax=20,
+        )
+        with ccsds123.RowEncoder(params) as encoder:
+            encoder.rows(samples_of(5, 4, 3, "bil"))
+            file = encoder.end()
+        self.assertEqual(file, ccsds123.encode(samples_of(5, 4, 3), params))
+        self.assertEqual(ccsds123.header(file), params)
+        self.assertRaises(TypeError, lambda: ccsds123.RowEncoder(params, depth=1))
+
+    def test_mapped_scene_is_coded_without_a_copy(self):
+        for interleave in ("bil", "bip"):
+            path = self.write("scene.raw", samples_of(5, 4, 3, interleave).tobytes())
+            with open(path, "rb") as raw, mmap.mmap(raw.fileno(), 0, access=mmap.ACCESS_READ) as mapped:
+                file = ccsds123.encode(mapped, interleave=interleave, byteorder=sys.byteorder, order="bi", depth=2, **SIZES)
+            self.assertEqual(file, whole_file(2))
+
+    def test_refusals(self):
+        begun = lambda: ccsds123.RowEncoder(**SIZES)
+        self.assertEqual(told(lambda: ccsds123.RowEncoder(**SIZES, order="bsq")), "23 Choice Order 0")
+        self.assertEqual(told(lambda: ccsds123.RowEncoder(**SIZES, interleave="bsq")), "23 Choice Interleave 0")
+        self.assertEqual(told(lambda: ccsds123.RowEncoder(**SIZES, depth=4)), "4 Disagree DepthOverBands")
+        self.assertEqual(told(begun().rows, bytes(29)), "14 RawLength 120 29")
+        self.assertEqual(told(begun().rows, bytes(150)), "14 RawLength 120 150")
+        encoder = begun()
+        encoder.rows(bytes(60))
+        self.assertEqual(told(encoder.rows, b"\xff" * 30), "13 SampleRange 30")
+        self.assertEqual(told(encoder.rows, bytes(30)), "20 Usage")
+        self.assertEqual(told(encoder.end), "20 Usage")
+        encoder = begun()
+        encoder.rows(bytes(60))
+        self.assertEqual(told(encoder.end), "14 RawLength 120 60")
+        encoder = begun()
+        encoder.rows(bytes(120))
+        encoder.end()
+        self.assertEqual(told(encoder.rows, b""), "20 Usage")
+
+    def test_arrays_of_another_kind(self):
+        encoder = ccsds123.RowEncoder(**SIZES)
+        for wrong in (samples_of(5, 4, 3, "bil", "h"), memoryview(bytes(120)).cast("H", (4, 5, 3)), memoryview(bytes(60)).cast("B", (4, 3, 5)), 5):
+            self.assertRaises(TypeError, encoder.rows, wrong)
+        encoder.rows(samples_of(5, 4, 3, "bil"))
+        self.assertEqual(encoder.end(), whole_file(1))
+
+    def test_encoders_that_are_not_ended(self):
+        for _ in range(50):
+            encoder = ccsds123.RowEncoder(**SIZES)
+            encoder.rows(bytes(30))
+        encoder.close()
+        encoder.close()
+        self.assertEqual(told(encoder.rows, bytes(30)), "20 Usage")
+        with self.assertRaises(KeyError), ccsds123.RowEncoder(**SIZES) as encoder:
+            raise KeyError
+        self.assertEqual(encoder.encoder.is_open, 0)
+        del encoder
+        gc.collect()
+
+
+if __name__ == "__main__":
+    unittest.main()
