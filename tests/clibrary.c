@@ -123,7 +123,37 @@ static void drop_set(struct set set)
     drop(set.file);
 }
 
-/* Returns whether a set is coded to its file, and decoded to its raw bytes; its file is no longer than the bound. */
+/* Returns whether rows that come one after another, each at the edge of its slice, are coded to the set's file; another encoder is freed on the way. */
+static int is_well_by_rows(const struct set *set)
+{
+    ccsds123_encoder encoder = CCSDS123_ENCODER_NONE, other = CCSDS123_ENCODER_NONE;
+    ccsds123_fault fault;
+    const int32_t *weights = (const int32_t *)(const void *)set->weights.bytes;
+    size_t row = (size_t)set->params.columns * set->params.bands * set->layout.bytes, at;
+    struct edge file = edge_of(set->file.length), less = edge_of(set->file.length - 1);
+    uint64_t length = 9;
+    int well = ccsds123_encoder_begin(&encoder, &set->params, weights, set->weights.length / sizeof(int32_t), set->accumulators.bytes,
+        set->accumulators.length, &set->layout, &fault) == 0;
+    well = well && ccsds123_encoder_begin(&other, &set->params, weights, set->weights.length / sizeof(int32_t), set->accumulators.bytes,
+        set->accumulators.length, &set->layout, &fault) == 0;
+    for (at = 0; well && at < set->raw.length; at += row) {
+        struct edge bytes = copy_of(set->raw.bytes + at, row);
+        well = ccsds123_encoder_rows(&encoder, bytes.bytes, row, &fault) == 0 && ccsds123_encoder_rows(&other, bytes.bytes, row, &fault) == 0;
+        drop(bytes);
+    }
+    well = well && ccsds123_encoder_end(&encoder, less.bytes, less.length, &length, &fault) == CCSDS123_ROOM && length == 0;
+    well = well && fault.first == (int64_t)file.length && ccsds123_encoder_end(&encoder, file.bytes, file.length, &length, &fault) == 0;
+    well = well && length == set->file.length && memcmp(file.bytes, set->file.bytes, length) == 0;
+    well = well && ccsds123_encoder_rows(&encoder, NULL, 0, &fault) == CCSDS123_USAGE && encoder.is_open == 0;
+    ccsds123_encoder_free(&encoder);
+    ccsds123_encoder_free(&other);
+    drop(file);
+    drop(less);
+    return well;
+}
+
+/* Returns whether a set is coded to its file, and decoded to its raw bytes; its file is no longer than the bound. Where its order and its
+ * layout both interleave the bands, rows are coded to it, too. */
 static int is_well(const struct set *set)
 {
     ccsds123_fault fault;
@@ -136,6 +166,8 @@ static int is_well(const struct set *set)
     well = well && length == set->file.length && memcmp(file.bytes, set->file.bytes, length) == 0;
     well = well && ccsds123_decode(set->file.bytes, set->file.length, &set->layout, raw.bytes, raw.length, &again, &fault) == 0;
     well = well && again == raw.length && memcmp(raw.bytes, set->raw.bytes, again) == 0;
+    if (set->params.order == CCSDS123_ORDER_BI && set->layout.interleave != CCSDS123_BSQ)
+        well = well && is_well_by_rows(set);
     drop(file);
     drop(raw);
     return well;

@@ -33,6 +33,10 @@ class Fault(ctypes.Structure):
         return self.number, self.name, self.first, self.second
 
 
+class Encoder(ctypes.Structure):
+    _fields_ = [("state", ctypes.c_void_p), ("is_open", c_uint32)]
+
+
 BYTES = POINTER(c_uint8)
 WEIGHTS = POINTER(c_int32)
 ARGUMENTS = {
@@ -43,6 +47,9 @@ ARGUMENTS = {
     + [POINTER(c_uint64), POINTER(Fault)],
     "ccsds123_read_header": [BYTES, c_size_t, POINTER(Params), WEIGHTS, c_size_t, POINTER(c_uint64), BYTES, c_size_t, POINTER(c_uint64)]
     + [POINTER(c_uint64), POINTER(Fault)],
+    "ccsds123_encoder_begin": [POINTER(Encoder), POINTER(Params), WEIGHTS, c_size_t, BYTES, c_size_t, POINTER(Layout), POINTER(Fault)],
+    "ccsds123_encoder_rows": [POINTER(Encoder), BYTES, c_size_t, POINTER(Fault)],
+    "ccsds123_encoder_end": [POINTER(Encoder), BYTES, c_size_t, POINTER(c_uint64), POINTER(Fault)],
     "ccsds123_decode": [BYTES, c_size_t, POINTER(Layout), BYTES, c_size_t, POINTER(c_uint64), POINTER(Fault)],
 }
 
@@ -71,6 +78,8 @@ class Library:
         self.calls.ccsds123_fault_text.argtypes = [POINTER(Fault), ctypes.c_char_p, c_size_t]
         self.calls.ccsds123_fault_text.restype = c_size_t
         self.calls.ccsds123_version.restype = c_uint32
+        self.calls.ccsds123_encoder_free.argtypes = [POINTER(Encoder)]
+        self.calls.ccsds123_encoder_free.restype = None
         self.calls.ccsds123_params_init.argtypes = [POINTER(Params)]
         self.calls.ccsds123_params_init.restype = None
 
@@ -124,6 +133,29 @@ class Library:
         tables = weights_of(weights), len(weights), bytes_of(accumulators), len(accumulators)
         given = byref(layout), bytes_of(raw), len(raw), file if had else None, had, byref(length)
         return self.answer("ccsds123_encode", byref(params), *tables, *given), bytes(file)[: length.value]
+
+    def begin(self, params, layout, weights=(), accumulators=b""):
+        """Returns the fault, and an encoder."""
+        encoder = Encoder()
+        tables = weights_of(weights), len(weights), bytes_of(accumulators), len(accumulators)
+        return self.answer("ccsds123_encoder_begin", byref(encoder), byref(params), *tables, byref(layout)), encoder
+
+    def rows(self, encoder, raw):
+        return self.answer("ccsds123_encoder_rows", byref(encoder), bytes_of(raw), len(raw))
+
+    def end(self, encoder, room=None):
+        """Returns the fault, and the bytes of the room up to the length that was stored; the room is as large as is wanted unless given."""
+        if room is None:
+            told, _ = self.end(encoder, 0)
+            if told is None or told[:2] != (21, 1):
+                return told, b""
+            room = told[2]
+        file, length = (c_uint8 * room)(), c_uint64(99)
+        fault = self.answer("ccsds123_encoder_end", byref(encoder), file if room else None, room, byref(length))
+        return fault, bytes(file)[: length.value]
+
+    def free(self, encoder):
+        self.calls.ccsds123_encoder_free(byref(encoder))
 
     def header(self, file, size=116, weight_room=2000, accumulator_room=200):
         """Returns the fault, the parameters, the weights, the accumulators and the header's length."""

@@ -4,8 +4,9 @@
     tests/library.py [SEED [COUNT [LIBRARY [PROGRAM]]]]
 
 SEED alone determines COUNT sets of parameters, layouts and samples. Without tables the file has to be the program's, byte for byte, and the
-library has to read it back; with tables, which no command line can give, the model and the program have to read the file. Then come the
-refusals: what C may give that is wrong, and damaged files, whose faults are the model's. SEED defaults to 1 and COUNT to 100.
+library has to read it back; with tables, which no command line can give, the model and the program have to read the file. In an interleaved order
+rows that are handed over in pieces have to give the same file. Then come the refusals: what C may give that is wrong, and damaged files, whose
+faults are the model's. SEED defaults to 1 and COUNT to 100.
 """
 
 import sys
@@ -15,6 +16,7 @@ sys.dont_write_bytecode = True
 import fuzz
 from clibrary import INTERLEAVES, LIBRARY, Layout, Library, layout_of
 from clibrary_refusals import check_refusals
+from clibrary_rows import check_row_calls, check_rows
 from harness import PROGRAM, Room
 from model.coders import residuals
 from model.header import header as model_header
@@ -106,9 +108,11 @@ def main():
     with tempfile.TemporaryDirectory() as folder:
         room = Room(folder, program)
         check_refusals(room, library)
+        check_row_calls(room, library)
         for i in range(count):
             check_set(room, library, seed, i)
             check_tables(room, library, seed, i)
+            check_rows(room, library, seed, i, tables=i % 2 == 1)
         files = fuzz.worked_files()
         for number in range(DAMAGED * count // 100):
             check_damaged(room, library, files, (seed << 32) + number)
