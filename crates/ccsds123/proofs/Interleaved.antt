@@ -7,7 +7,7 @@ use Rattle.ccsds123.specs.declared.records.ParamsRecord.{ParamsRecord}
 use Rattle.ccsds123.specs.declared.records.LayoutRecord.{LayoutRecord}
 use Rattle.ccsds123.specs.declared.refusal.Refusal.{Refusal}
 use Rattle.ccsds123.specs.Asked.{◌and◌, interleaved_test, order_by, raw_order_by, unless}
-use Rattle.ccsds123.specs.Scenes.{ComesByRows}
+use Rattle.raw_rows.specs.OneRow.{ComesByRows}
 
 by_choices : (first b c : Bool) (e f : Refusal) → (unless first e and unless (not b) f) ≡ Ok tt
     → (first ≡ true) × ComesByRows (if b then raw.Bsq else if c then raw.Bil else raw.Bip)

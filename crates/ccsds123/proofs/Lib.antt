@@ -8,5 +8,4 @@ pub mod LooseValues
 pub mod Putting
 pub mod Refused
 pub mod Refusing
-pub mod RowImages
 pub mod SceneRows

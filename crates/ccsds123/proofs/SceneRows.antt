@@ -29,10 +29,11 @@ use Rattle.ccsds123.specs.declared.scene.SceneEncoder.{SceneEncoder}
 use Rattle.ccsds123.specs.declared.scene.Stage.{Stage}
 use Rattle.ccsds123.specs.declared.scene.Stage.TheVariants as stage
 use Rattle.ccsds123.specs.Coding.{raw_length}
-use Rattle.ccsds123.specs.OneRow.{AreBandRows, one_row}
+use Rattle.raw_rows.specs.OneRow.{AreBandRows, one_row}
 use Rattle.ccsds123.specs.Rows.{AreMoreRows, IsEndRefusal, IsRowRefusal, IsWrongCount, with_more}
-use Rattle.ccsds123.specs.Scenes.{ComesByRows, IsAtStage, IsOpen, IsWrittenAs, IsWrittenFor, Scene, image_in, row_bytes, scene_of}
-use Rattle.ccsds123.proofs.RowImages.{row_found}
+use Rattle.raw_rows.specs.OneRow.{ComesByRows}
+use Rattle.ccsds123.specs.Scenes.{IsAtStage, IsOpen, IsWrittenAs, IsWrittenFor, Scene, image_in, row_bytes, scene_of}
+use Rattle.raw_rows.proofs.RowImages.{row_found}
 
 -- ---- how many bytes have come
 

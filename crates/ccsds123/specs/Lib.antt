@@ -3,7 +3,6 @@ pub mod Bound
 pub mod Coding
 pub mod Header
 pub mod Held
-pub mod OneRow
 pub mod Params
 pub mod Rows
 pub mod Scenes

@@ -2,8 +2,6 @@
 use Rattle.std.specs.Prelude.{ℕ, ◌≡◌, ◌*◌, ◌^◌, ◌<◌, ◌≤◌, Bool, true, false, List, length, take, Option, None, Some, Ok}
 use Rattle.std.specs.List.{AllByRecursion}
 use Rattle.cube_core.specs.declared.layout.Layout.{Layout}
-use Rattle.cube_core.specs.declared.layout.RawOrder.{RawOrder}
-use Rattle.cube_core.specs.declared.layout.RawOrder.TheVariants as raw
 use Rattle.cube_core.specs.Image.{Image}
 use Rattle.cube_core.specs.Layout.{IsLayout, raw_bytes}
 use Rattle.cube_core.specs.Raw.{IsFound}
@@ -11,6 +9,7 @@ use Rattle.header_bits.specs.declared.params.Params.{Params}
 use Rattle.header_bits.specs.Lawful.{IsLawful}
 use Rattle.sample_prediction.specs.HandedRows.{row_size}
 use Rattle.file_encoding.specs.ByRows.{image_so_far, AreAllRows, IsFileOfRows, IsInterleaved, IsUnderWay}
+use Rattle.raw_rows.specs.OneRow.{ComesByRows}
 use Rattle.ccsds123.specs.Coding.{IsFileOfRaw}
 use Rattle.ccsds123.specs.declared.scene.SceneEncoder.{SceneEncoder}
 use Rattle.ccsds123.specs.declared.scene.Stage.{Stage}
@@ -21,12 +20,6 @@ pub record Scene : Type 0 where
   pub params : Params
   pub layout : Layout
   pub raw : List ℕ
-
--- raw bytes come row after row, and in each row with all bands
-abbrev pub ComesByRows : RawOrder → Type 0
-ComesByRows raw.Bsq = ⊥
-ComesByRows raw.Bil = Unit {0}
-ComesByRows raw.Bip = Unit {0}
 
 -- the bytes of a row of all bands
 abbrev pub row_bytes : Params → Layout → ℕ

@@ -13,7 +13,6 @@ pub mod held;
 pub mod laws;
 pub mod loose;
 mod names;
-pub mod one_row;
 pub mod records;
 pub mod refusal;
 pub mod rooms;

@@ -9,16 +9,17 @@ ghost use Rattle.header_bits.specs.Lawful.{IsLawful};
 ghost use Rattle.sample_prediction.specs.HandedRows.{row_size};
 ghost use Rattle.file_encoding.specs.ByRows.{IsInterleaved};
 ghost use Rattle.ccsds123.specs.Coding.{IsFileOfRaw};
-ghost use Rattle.ccsds123.specs.OneRow.{one_row as row_of};
+ghost use Rattle.raw_rows.specs.OneRow.{one_row as row_of};
 ghost use Rattle.ccsds123.specs.Rows.{AreMoreRows, IsEndRefusal, IsRowRefusal, IsRowsRefusal, IsWrongCount, with_more};
-ghost use Rattle.ccsds123.specs.Scenes.{ComesByRows, IsAllThere, IsAtStage, IsOpen, IsWritten, IsWrittenAs, row_bytes, scene_of};
+ghost use Rattle.raw_rows.specs.OneRow.{ComesByRows};
+ghost use Rattle.ccsds123.specs.Scenes.{IsAllThere, IsAtStage, IsOpen, IsWritten, IsWrittenAs, row_bytes, scene_of};
 
-use crate::one_row::{one_row, read_row, row_samples};
 use cube_core::cube::Cube;
 use cube_core::fault::Fault;
 use cube_core::layout::Layout;
 use file_encoding::row_encoder::RowEncoder;
 use header_bits::params::Params;
+use raw_rows::one_row::{one_row, row_samples, take_row};
 use sample_prediction::handed::HandedRows;
 use std::alloc::Global;
 use std::mem::replace;
@@ -130,7 +131,7 @@ impl SceneEncoder {
         ensures long { length samples.new ≡ length samples.old }
         ensures refused { IfErr result (IsRowRefusal (scene_of self.old) bytes.now) }
     {
-        match read_row(row, self.layout, bytes, samples) {
+        match take_row(row, self.layout, bytes, samples) {
             Ok(row) => {
                 self.put_row(samples)?;
                 Ok(row)

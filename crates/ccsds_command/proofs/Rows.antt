@@ -20,9 +20,10 @@ use Rattle.file_encoding.proofs.ByRows.{image_more}
 use Rattle.command_devices.specs.Devices.{Gave, GaveWithin}
 use Rattle.command_devices.proofs.Devices.{gave_more}
 use Rattle.command_words.specs.declared.settings.CompressSettings.{CompressSettings}
-use Rattle.raw_streams.specs.Rows.{AreBandRows, GaveRows, InterleavesBands, IsRowRefusal, one_row, row_bytes, samples_of_row}
+use Rattle.raw_rows.specs.OneRow.{AreBandRows, ComesByRows, one_row, samples_of_row}
+use Rattle.raw_streams.specs.Rows.{GaveRows, IsRowRefusal, row_bytes}
 use Rattle.raw_streams.specs.Streams.{IsRawRefusal, most_read}
-use Rattle.raw_streams.proofs.RowImages.{row_found}
+use Rattle.raw_rows.proofs.RowImages.{row_found}
 use Rattle.raw_streams.proofs.RowStreams.{all_rows, row_refused}
 use Rattle.raw_streams.proofs.Streams.{all_came, found_cube, found_none, gave_within, within_more}
 use Rattle.ccsds_command.specs.ByRows.{HasCome}
@@ -106,7 +107,7 @@ module _ (s : Sizes) (k : SampleKind) (l : Layout) (r : Image) (bytes samples : 
   all_in_range = row_range (2 ^ k.bits) samples in_range
 
 module _ (p : Params) (l : Layout) (e : RowEncoderState) (r : Image) (before bytes samples : List ℕ) (layout : IsLayout l)
-    (interleaved : InterleavesBands l.order) (under : IsUnderWay p e) (more : e.y < p.shape.rows)
+    (interleaved : ComesByRows l.order) (under : IsUnderWay p e) (more : e.y < p.shape.rows)
     (found : IsFound p.shape p.kind l before (e.y * samples_of_row p.shape) (Ok (image_so_far p e.offsets)))
     (row : IsRow p.shape p.kind l r bytes samples) where
   image : Image
@@ -179,7 +180,7 @@ module _ (s : CompressSettings) (e : RowEncoderState) (a b c : Option (List ℕ)
       gave_within a c (come.0 ++ bytes) (most_read s.params.shape s.layout) (gave_more a b c come.0 bytes come.1 gave)
       (omega (arith, length-append come.0 bytes, bytes_come, long, next, fits, all_rows s.params.shape s.layout))
 
-  pub come_more : (new : RowEncoderState) (r : Image) (bytes samples : List ℕ) → IsLayout s.layout → InterleavesBands s.layout.order → IsUnderWay s.params e
+  pub come_more : (new : RowEncoderState) (r : Image) (bytes samples : List ℕ) → IsLayout s.layout → ComesByRows s.layout.order → IsUnderWay s.params e
       → e.y < s.params.shape.rows → IsRow s.params.shape s.params.kind s.layout r bytes samples → Gave b c bytes → new.y ≡ e.y + 1
       → new.offsets ≡ e.offsets ++ samples → HasCome s new a c
   come_more new r bytes samples layout interleaved under more row gave y_is offsets_are =

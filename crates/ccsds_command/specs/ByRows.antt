@@ -2,7 +2,7 @@
 use Rattle.std.specs.Prelude.{◌*◌, ℕ, List, Option, Ok}
 use Rattle.cube_core.specs.Raw.{IsFound}
 use Rattle.file_encoding.specs.ByRows.{RowEncoderState, image_so_far}
-use Rattle.raw_streams.specs.Rows.{samples_of_row}
+use Rattle.raw_rows.specs.OneRow.{samples_of_row}
 use Rattle.command_devices.specs.Devices.{Gave}
 use Rattle.command_words.specs.declared.settings.CompressSettings.{CompressSettings}
 

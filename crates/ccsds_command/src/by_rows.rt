@@ -1,10 +1,11 @@
 //! Coding an image while its raw bytes are read, a row of all bands at a time.
 
-ghost use Rattle.std.specs.Prelude.{◌≡◌, ◌≤◌, ◌<◌, ◌*◌, ◌^◌, [], length, IsTrue, IfOk, IfErr, OnOk};
+ghost use Rattle.std.specs.Prelude.{◌≡◌, [], length, IsTrue, IfOk, IfErr, OnOk};
 ghost use Rattle.cube_core.specs.Layout.{IsLayout};
 ghost use Rattle.header_bits.specs.Lawful.{IsLawful};
 ghost use Rattle.file_encoding.specs.ByRows.{IsInterleaved, IsUnderWay};
-ghost use Rattle.raw_streams.specs.Rows.{InterleavesBands, one_row, row_bytes, samples_of_row};
+ghost use Rattle.raw_rows.specs.OneRow.{ComesByRows, one_row as row_of, samples_of_row};
+ghost use Rattle.raw_streams.specs.Rows.{row_bytes};
 ghost use Rattle.raw_streams.specs.Streams.{IsRawRefusal, most_read};
 ghost use Rattle.ccsds_command.specs.ByRows.{HasCome};
 ghost use Rattle.ccsds_command.specs.Compress.{HasFile, IsCubeRefusal, raw_limit};
@@ -17,8 +18,8 @@ use cube_core::cube::Cube;
 use cube_core::fault::Fault;
 use cube_core::layout::RawOrder;
 use cube_core::order::Order;
-use cube_core::shape::Shape;
 use file_encoding::row_encoder::RowEncoder;
+use raw_rows::one_row::{one_row, row_samples};
 use raw_streams::rows::{read_rest, read_row};
 use std::alloc::Global;
 
@@ -26,11 +27,11 @@ use std::alloc::Global;
 const FEWEST_ROWS: u32 = 8;
 
 /// The most samples in its rows: what is kept is allocated before anything is read.
-const MOST_SAMPLES: usize = 1 << 24;
+const MOST_SAMPLES: u64 = 1 << 24;
 
 /// Returns whether an image is coded while it is read: its raw bytes bring the rows that its order codes, one after another.
 pub(crate) fn goes_by_rows(settings: &CompressSettings) -> bool
-    ensures { IsTrue result → InterleavesBands settings.now.layout.order × IsInterleaved settings.now.params.order }
+    ensures { IsTrue result → ComesByRows settings.now.layout.order × IsInterleaved settings.now.params.order }
 {
     match (settings.layout.order, settings.params.order) {
         (RawOrder::Bsq, _) | (_, Order::Bsq) => false,
@@ -49,7 +50,7 @@ pub(crate) fn file_by_rows<S: Source>(
 ) -> Result<Vec<u8>, Fault>
     requires lawful { IsLawful settings.now.params }
     requires layout { IsLayout settings.now.layout }
-    requires rows { InterleavesBands settings.now.layout.order }
+    requires rows { ComesByRows settings.now.layout.order }
     requires order { IsInterleaved settings.now.params.order }
     ensures file { IfOk result (λ file. HasFile settings.now (S.left source.old) file.items) }
     ensures refused { IfErr result (IsCubeRefusal settings.now (S.left source.old) (S.failures source.old) (S.failures source.new)) }
@@ -59,10 +60,10 @@ pub(crate) fn file_by_rows<S: Source>(
 {
     let params = &settings.params;
     let encoder = RowEncoder::new(alloc, params)?;
-    let size = row_samples(params.shape);
+    let size = row_samples(params.shape) as usize;
     let mut bytes = vec![in alloc; 0u8; size * settings.layout.bytes as usize]?;
     let mut samples = vec![in alloc; 0u16; size]?;
-    let row = Cube::new(alloc, shape_of_row(params.shape), params.kind)?;
+    let row = Cube::new(alloc, one_row(params.shape), params.kind)?;
     let encoder = code_rows(source, settings, row, encoder, &mut bytes, &mut samples)?;
     read_rest(
         source,
@@ -86,8 +87,8 @@ fn code_rows<S: Source>(
     samples: &mut [u16],
 ) -> Result<RowEncoder, Fault>
     requires layout { IsLayout settings.now.layout }
-    requires rows { InterleavesBands settings.now.layout.order }
-    requires row { (row.shape ≡ one_row settings.now.params.shape) × (row.kind ≡ settings.now.params.kind) }
+    requires rows { ComesByRows settings.now.layout.order }
+    requires row { (row.shape ≡ row_of settings.now.params.shape) × (row.kind ≡ settings.now.params.kind) }
     requires under_way { IsUnderWay settings.now.params encoder }
     requires none { (encoder.y ≡ 0) × (encoder.offsets ≡ []) }
     requires bytes { length bytes.old ≡ row_bytes settings.now.params.shape settings.now.layout }
@@ -120,22 +121,4 @@ fn code_rows<S: Source>(
         y += 1;
     }
     Ok(encoder)
-}
-
-/// Returns the shape of one row of all bands.
-fn shape_of_row(shape: Shape) -> Shape
-    ensures { result ≡ one_row shape }
-{
-    match Shape::new(shape.columns(), 1, shape.bands()) {
-        Ok(row) => row,
-        Err(_) => unreachable!(),
-    }
-}
-
-/// Returns the number of samples in a row of all bands.
-fn row_samples(shape: Shape) -> usize
-    ensures value { result ≡ samples_of_row shape }
-    ensures range { result ≤ 2 ^ 32 }
-{
-    shape.bands() as usize * shape.columns() as usize
 }

@@ -1,3 +1,2 @@
-pub mod RowImages
 pub mod RowStreams
 pub mod Streams

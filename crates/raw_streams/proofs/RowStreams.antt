@@ -15,7 +15,8 @@ use Rattle.cube_core.specs.Shape.{Sizes}
 use Rattle.cube_core.proofs.PartBytes.{bad_follows, bad_stays}
 use Rattle.command_devices.specs.Devices.{Gave, GaveWithin, IsFront}
 use Rattle.command_devices.proofs.Devices.{gave_more}
-use Rattle.raw_streams.specs.Rows.{GaveRows, IsCutOff, IsRestRefusal, IsRowRefusal, IsWrongRest, row_bytes, samples_of_row}
+use Rattle.raw_rows.specs.OneRow.{samples_of_row}
+use Rattle.raw_streams.specs.Rows.{GaveRows, IsCutOff, IsRestRefusal, IsRowRefusal, IsWrongRest, row_bytes}
 use Rattle.raw_streams.specs.Streams.{IsEndRefusal, IsPartRefusal, IsRawRefusal, length_in, most_read}
 use Rattle.raw_streams.proofs.Streams.{ended_front, full_front, gave_none, within_more}
 

@@ -1,39 +1,19 @@
 -- Rows of all bands in a cube's raw bytes, and why one isn't read.
-use Rattle.std.specs.Prelude.{ℕ, ◌≡◌, ◌⊎◌, ◌+◌, ◌-◌, ◌*◌, ◌<◌, ◌^◌, List, length, slice_index, Option}
+use Rattle.std.specs.Prelude.{ℕ, ◌≡◌, ◌⊎◌, ◌+◌, ◌-◌, ◌*◌, ◌<◌, List, length, Option}
 use Rattle.cube_core.specs.declared.fault.Fault.{Fault}
 use Rattle.cube_core.specs.declared.fault.Fault.TheVariants.{RawLength, Read, SampleRange}
 use Rattle.cube_core.specs.declared.layout.Layout.{Layout}
-use Rattle.cube_core.specs.declared.layout.RawOrder.{RawOrder}
 use Rattle.cube_core.specs.declared.layout.RawOrder.TheVariants as raw
-use Rattle.cube_core.specs.Image.{Image, sample_at}
-use Rattle.cube_core.specs.Kind.{SampleKind, sample_of}
+use Rattle.cube_core.specs.Kind.{SampleKind}
 use Rattle.cube_core.specs.Layout.{IsFirstBad}
 use Rattle.cube_core.specs.Shape.{Sizes}
 use Rattle.command_devices.specs.Devices.{Gave, IsEnd, Rose}
+use Rattle.raw_rows.specs.OneRow.{samples_of_row}
 use Rattle.raw_streams.specs.Streams.{length_in, most_read}
 
--- raw bytes that come row after row, and in each row with all bands
-abbrev pub InterleavesBands : RawOrder → Type 0
-InterleavesBands raw.Bsq = ⊥
-InterleavesBands raw.Bil = Unit {0}
-InterleavesBands raw.Bip = Unit {0}
-
--- the sizes of one row of all bands
-abbrev pub one_row : Sizes → Sizes
-one_row s = record s { rows = 1 }
-
--- how many samples it has, and how many raw bytes
-abbrev pub samples_of_row : Sizes → ℕ
-samples_of_row s = s.bands * s.columns
-
+-- how many raw bytes a row of all bands has
 abbrev pub row_bytes : Sizes → Layout → ℕ
 row_bytes s l = samples_of_row s * l.bytes
-
--- the samples of a cube of one row, band after band, each as its offset s - s_min
-abbrev pub AreBandRows : Image → List ℕ → Type 0
-AreBandRows c offsets = (z x : ℕ) → z < c.shape.bands → x < c.shape.columns
-    → (slice_index offsets (z * c.shape.columns + x) < 2 ^ c.kind.bits)
-    × (sample_at c z 0 x ≡ sample_of c.kind (slice_index offsets (z * c.shape.columns + x)))
 
 -- the source gave the raw bytes of all rows from the y-th on, and is at its end
 abbrev pub GaveRows : Sizes → Layout → ℕ → Option (List ℕ) → Option (List ℕ) → Type 0

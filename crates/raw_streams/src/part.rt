@@ -3,7 +3,7 @@
 ghost use Rattle.std.specs.Prelude.{◌≡◌, ◌*◌, ◌<◌, ◌≤◌, ◌^◌};
 ghost use Rattle.cube_core.specs.Layout.{IsLayout};
 ghost use Rattle.cube_core.specs.Parts.{IsPart, first_sample, part_samples, unit_count, unit_of};
-ghost use Rattle.raw_streams.specs.Rows.{InterleavesBands, samples_of_row};
+ghost use Rattle.raw_rows.specs.OneRow.{ComesByRows, samples_of_row};
 
 use cube_core::layout::{Layout, RawOrder};
 use cube_core::part::Part;
@@ -39,7 +39,7 @@ pub(crate) fn length_of(layout: Layout, shape: Shape, part: Part) -> usize
 
 /// Returns the part that row `y` of all bands is, where the layout interleaves them.
 pub(crate) fn row_part(layout: Layout, shape: Shape, y: u32) -> Part
-    requires interleaved { InterleavesBands layout.order }
+    requires interleaved { ComesByRows layout.order }
     requires inside { y < shape.rows }
     ensures part { IsPart layout shape result }
     ensures first { first_sample layout shape result ≡ y * samples_of_row shape }
@@ -54,7 +54,7 @@ pub(crate) fn row_part(layout: Layout, shape: Shape, y: u32) -> Part
 
 /// Returns how many units a row of all bands is, where the layout interleaves them.
 fn row_units(layout: Layout, shape: Shape) -> u32
-    requires { InterleavesBands layout.order }
+    requires { ComesByRows layout.order }
     ensures row { result * unit_of layout.order shape ≡ samples_of_row shape }
     ensures all { shape.rows * result ≡ unit_count layout.order shape }
     ensures range { result ≤ 65536 }

@@ -1,13 +1,13 @@
 //! Raw bytes that interleave the bands, read from a source a row of all bands at a time.
 
-ghost use Rattle.std.specs.Prelude.{◌≡◌, ◌+◌, ◌-◌, ◌*◌, ◌<◌, ◌≤◌, ℕ, length, slice_index, IfOk, IfErr, OnOk};
+ghost use Rattle.std.specs.Prelude.{◌≡◌, ◌+◌, ◌-◌, ◌*◌, ◌<◌, ◌≤◌, length, IfOk, IfErr, OnOk};
 ghost use Rattle.cube_core.specs.Image.{IsCube};
-ghost use Rattle.cube_core.specs.Layout.{IsLayout, IsFirstBad, raw_bytes, HaveBytes};
+ghost use Rattle.cube_core.specs.Layout.{IsLayout, raw_bytes, HaveBytes};
 ghost use Rattle.cube_core.specs.Raw.{AreSamples};
-ghost use Rattle.cube_core.specs.Shape.{AreSizes};
 ghost use Rattle.command_devices.specs.Devices.{Gave, GaveWithin};
 ghost use Rattle.command_devices.specs.Reading.{ToldAsRead};
-ghost use Rattle.raw_streams.specs.Rows.{AreBandRows, GaveRows, InterleavesBands, IsCutOff, IsRestRefusal, IsRowRefusal, one_row, row_bytes, samples_of_row};
+ghost use Rattle.raw_rows.specs.OneRow.{AreBandRows, ComesByRows, one_row, samples_of_row};
+ghost use Rattle.raw_streams.specs.Rows.{GaveRows, IsCutOff, IsRestRefusal, IsRowRefusal, row_bytes};
 ghost use Rattle.raw_streams.specs.Streams.{most_read};
 
 use crate::part::row_part;
@@ -17,6 +17,7 @@ use cube_core::cube::Cube;
 use cube_core::fault::Fault;
 use cube_core::layout::Layout;
 use cube_core::shape::Shape;
+use raw_rows::one_row::{row_samples, take_row};
 
 /// Reads row `y` of all bands, and takes its samples: band after band, each as its offset from the least sample of the kind. The cube is
 /// of one row, and is the row that was read afterwards.
@@ -33,7 +34,7 @@ pub fn read_row<S: Source>(
     samples: &mut [u16],
 ) -> Result<Cube, Fault>
     requires layout { IsLayout layout }
-    requires interleaved { InterleavesBands layout.order }
+    requires interleaved { ComesByRows layout.order }
     requires inside { y < shape.rows }
     requires row { row.shape ≡ one_row shape }
     requires bytes { length bytes.old ≡ row_bytes shape layout }
@@ -70,7 +71,7 @@ pub fn read_rest<S: Source>(
     bytes: &mut [u8],
 ) -> Result<(), Fault>
     requires layout { IsLayout layout }
-    requires interleaved { InterleavesBands layout.order }
+    requires interleaved { ComesByRows layout.order }
     requires inside { y ≤ shape.rows }
     requires room { length bytes.old ≡ row_bytes shape layout }
     ensures given { OnOk result (GaveRows shape layout y (S.left source.old) (S.left source.new)) }
@@ -101,7 +102,7 @@ fn read_row_bytes<S: Source>(
     bytes: &mut [u8],
 ) -> Result<(), Fault>
     requires layout { IsLayout layout }
-    requires interleaved { InterleavesBands layout.order }
+    requires interleaved { ComesByRows layout.order }
     requires inside { y < shape.rows }
     requires room { length bytes.old ≡ row_bytes shape layout }
     ensures given { OnOk result (Gave (S.left source.old) (S.left source.new) bytes.new) }
@@ -111,61 +112,4 @@ fn read_row_bytes<S: Source>(
     ensures long { length bytes.new ≡ length bytes.old }
 {
     read_bytes(source, shape, layout, row_part(layout, shape, y), bytes)
-}
-
-/// Takes the samples of a row of all bands from its raw bytes, or returns the index of the first that isn't of the kind.
-fn take_row(row: Cube, layout: Layout, bytes: &[u8], samples: &mut [u16]) -> Result<Cube, u64>
-    requires layout { IsLayout layout }
-    requires row { row.shape.rows ≡ 1 }
-    requires bytes { length bytes.now ≡ row_bytes row.shape layout }
-    requires samples { length samples.old ≡ samples_of_row row.shape }
-    ensures row { IfOk result (λ c. IsCube c × (c.shape ≡ row.shape) × (c.kind ≡ row.kind) × (raw_bytes c layout ≡ bytes.now)
-        × HaveBytes c layout (samples_of_row row.shape) × AreSamples row.kind layout bytes.now (samples_of_row row.shape) × AreBandRows c samples.new) }
-    ensures long { length samples.new ≡ length samples.old }
-    ensures bad { IfErr result (λ i. IsFirstBad row.kind layout bytes.now i) }
-{
-    let shape = row.shape();
-    match row.read_part(layout, layout.all(shape), bytes) {
-        Ok(row) => {
-            copy_bands(&row, samples);
-            Ok(row)
-        }
-        Err(Fault::SampleRange { index }) => Err(index),
-        Err(_) => unreachable!(),
-    }
-}
-
-/// Copies the samples of a cube of one row, band after band.
-fn copy_bands(row: &Cube, samples: &mut [u16])
-    requires one { row.now.shape.rows ≡ 1 }
-    requires long { length samples.old ≡ samples_of_row row.now.shape }
-    ensures copied { AreBandRows row.now samples.new }
-    ensures long { length samples.new ≡ length samples.old }
-{
-    let columns = row.shape().columns() as usize;
-    let bands = row.shape().bands();
-    let mut z = 0;
-    while z < bands {
-        put_band(samples, z as usize * columns, row.row(z, 0));
-        z += 1;
-    }
-}
-
-/// Replaces samples, from index `at` on, by those of a band's row.
-fn put_band(samples: &mut [u16], at: usize, band: &[u16])
-    requires { at + length band.now ≤ length samples.old }
-    ensures long { length samples.new ≡ length samples.old }
-    ensures put { (i : ℕ) → i < length band.now → slice_index samples.new (at + i) ≡ slice_index band.now i }
-    ensures before { (j : ℕ) → j < at → slice_index samples.new j ≡ slice_index samples.old j }
-{
-    samples[at..at + band.len()].copy_from_slice(band);
-}
-
-/// Returns the number of samples of a row of all bands.
-fn row_samples(shape: Shape) -> u64
-    ensures value { result ≡ samples_of_row shape }
-    ensures sizes { AreSizes shape }
-{
-    let _count = shape.sample_count();
-    u64::from(shape.bands()) * u64::from(shape.columns())
 }

@@ -3,7 +3,7 @@ use Rattle.cube_core.specs.declared.layout.Layout.{Layout}
 use Rattle.header_bits.specs.declared.params.Params.{Params}
 use Rattle.file_encoding.specs.ByRows.{IsInterleaved}
 use Rattle.ccsds123.specs.Asked.{AsksParams}
-use Rattle.ccsds123.specs.Scenes.{ComesByRows}
+use Rattle.raw_rows.specs.OneRow.{ComesByRows}
 use Rattle.ccsds123.proofs.Interleaved.{interleaves}
 use Rattle.ccsds123.proofs.encoder.new_scene.Goals as goal
 

@@ -1,6 +1,7 @@
 use Rattle.std.proofs.Common.{◌≡◌, ◌-◌, ◌≤◌, length}
 use Rattle.file_encoding.specs.ByRows.{IsUnderWay}
-use Rattle.raw_streams.specs.Rows.{one_row, row_bytes, samples_of_row}
+use Rattle.raw_rows.specs.OneRow.{one_row, samples_of_row}
+use Rattle.raw_streams.specs.Rows.{row_bytes}
 use Rattle.ccsds_command.specs.ByRows.{HasCome}
 use Rattle.ccsds_command.proofs.by_rows.code_rows.Given as goal
 

@@ -1,7 +1,7 @@
 use Rattle.std.proofs.Common.{◌≡◌, ◌+◌, ◌*◌, ◌<◌, ◌≤◌, ℕ, suc, arith, ap, ◌∙◌}
 use Rattle.std.proofs.lemmas.Nat.{mul-le}
 use Rattle.cube_core.specs.Parts.{unit_count, unit_of}
-use Rattle.raw_streams.specs.Rows.{samples_of_row}
+use Rattle.raw_rows.specs.OneRow.{samples_of_row}
 use Rattle.raw_streams.proofs.part.row_part.Goals as goal
 
 -- row y is one of so many rows of as many units

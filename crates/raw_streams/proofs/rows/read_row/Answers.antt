@@ -5,7 +5,8 @@ use Rattle.cube_core.specs.declared.fault.Fault.TheVariants.{SampleRange}
 use Rattle.cube_core.specs.declared.layout.Layout.{Layout}
 use Rattle.cube_core.specs.Layout.{IsLayout}
 use Rattle.cube_core.specs.Shape.{AreSizes, Sizes}
-use Rattle.raw_streams.specs.Rows.{row_bytes, samples_of_row}
+use Rattle.raw_rows.specs.OneRow.{samples_of_row}
+use Rattle.raw_streams.specs.Rows.{row_bytes}
 use Rattle.raw_streams.proofs.Streams.{gave_none, gave_within, within_more}
 use Rattle.raw_streams.proofs.RowStreams.{rest_ends, room_with_rest, row_ends, row_fits, row_is_bad}
 use Rattle.raw_streams.proofs.rows.read_row.Goals as goal

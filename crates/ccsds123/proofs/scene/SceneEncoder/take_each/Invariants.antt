@@ -1,6 +1,6 @@
 use Rattle.std.proofs.Common.{◌≡◌, ◌+◌, ◌*◌, length, take}
 use Rattle.sample_prediction.specs.HandedRows.{row_size}
-use Rattle.ccsds123.specs.OneRow.{one_row}
+use Rattle.raw_rows.specs.OneRow.{one_row}
 use Rattle.ccsds123.specs.Rows.{with_more}
 use Rattle.ccsds123.specs.Scenes.{IsOpen, scene_of}
 use Rattle.ccsds123.proofs.scene.SceneEncoder.take_each.Given as goal

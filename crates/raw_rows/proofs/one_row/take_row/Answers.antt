@@ -9,8 +9,8 @@ use Rattle.cube_core.specs.Parts.{first_sample, part_samples}
 use Rattle.cube_core.specs.Raw.{AreSamples}
 use Rattle.cube_core.specs.Shape.{Sizes, sample_count}
 use Rattle.cube_core.proofs.PartBytes.{whole_read}
-use Rattle.raw_streams.specs.Rows.{AreBandRows, samples_of_row}
-use Rattle.raw_streams.proofs.rows.take_row.Goals as goal
+use Rattle.raw_rows.specs.OneRow.{AreBandRows, samples_of_row}
+use Rattle.raw_rows.proofs.one_row.take_row.Goals as goal
 
 -- a row is all of a cube of one row
 module _ (shape : Sizes) (l : Layout) (part : Part) (d : Image) (given : shape ≡ d.shape) (one : d.shape.rows ≡ 1)

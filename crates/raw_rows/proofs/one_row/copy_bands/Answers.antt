@@ -5,7 +5,7 @@ use Rattle.std.specs.Prelude.{slice_index}
 use Rattle.cube_core.specs.Image.{Image, sample_at}
 use Rattle.cube_core.specs.Kind.{sample_of}
 use Rattle.cube_core.specs.Shape.{Sizes}
-use Rattle.ccsds123.proofs.one_row.copy_bands.Goals as goal
+use Rattle.raw_rows.proofs.one_row.copy_bands.Goals as goal
 
 -- a band's row was put behind those of the bands before
 one_more : (c : Image) (columns at : ℕ) (old new band : List ℕ) → c.shape.columns ≡ columns → length band ≡ columns

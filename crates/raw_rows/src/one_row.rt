@@ -1,13 +1,11 @@
 //! A row of all bands: from its raw bytes to its samples, band after band.
 
 ghost use Rattle.std.specs.Prelude.{◌≡◌, ◌+◌, ◌*◌, ◌<◌, ◌≤◌, ◌^◌, ℕ, length, slice_index, IfOk, IfErr};
-ghost use Rattle.std.specs.List.{AllByRecursion};
 ghost use Rattle.cube_core.specs.Image.{IsCube};
 ghost use Rattle.cube_core.specs.Layout.{IsLayout, IsFirstBad, raw_bytes, HaveBytes};
 ghost use Rattle.cube_core.specs.Raw.{AreSamples};
 ghost use Rattle.cube_core.specs.Shape.{AreSizes, InRange};
-ghost use Rattle.sample_prediction.specs.HandedRows.{row_size};
-ghost use Rattle.ccsds123.specs.OneRow.{AreBandRows, one_row as row_of};
+ghost use Rattle.raw_rows.specs.OneRow.{AreBandRows, one_row as row_of, samples_of_row};
 
 use cube_core::cube::Cube;
 use cube_core::fault::Fault;
@@ -27,9 +25,12 @@ pub fn one_row(shape: Shape) -> Shape
 
 /// Returns the number of samples of a row of all bands.
 pub fn row_samples(shape: Shape) -> u64
-    ensures value { result ≡ row_size shape }
+    ensures value { result ≡ samples_of_row shape }
     ensures range { InRange 1 (2 ^ 32) result }
+    ensures sizes { AreSizes shape }
 {
+    // Sizes are a part of what counts samples.
+    let _count = shape.sample_count();
     u64::from(shape.bands()) * u64::from(shape.columns())
 }
 
@@ -37,13 +38,13 @@ pub fn row_samples(shape: Shape) -> u64
 /// The cube is of one row, and is the row that was read afterwards.
 ///
 /// Returns the index of the first sample that isn't of the kind.
-pub fn read_row(row: Cube, layout: Layout, bytes: &[u8], samples: &mut [u16]) -> Result<Cube, u64>
+pub fn take_row(row: Cube, layout: Layout, bytes: &[u8], samples: &mut [u16]) -> Result<Cube, u64>
     requires layout { IsLayout layout }
     requires row { row.shape.rows ≡ 1 }
-    requires bytes { length bytes.now ≡ row_size row.shape * layout.bytes }
-    requires samples { length samples.old ≡ row_size row.shape }
+    requires bytes { length bytes.now ≡ samples_of_row row.shape * layout.bytes }
+    requires samples { length samples.old ≡ samples_of_row row.shape }
     ensures row { IfOk result (λ c. IsCube c × (c.shape ≡ row.shape) × (c.kind ≡ row.kind) × (raw_bytes c layout ≡ bytes.now)
-        × HaveBytes c layout (row_size row.shape) × AreSamples row.kind layout bytes.now (row_size row.shape) × AreBandRows c samples.new) }
+        × HaveBytes c layout (samples_of_row row.shape) × AreSamples row.kind layout bytes.now (samples_of_row row.shape) × AreBandRows c samples.new) }
     ensures long { length samples.new ≡ length samples.old }
     ensures bad { IfErr result (λ i. IsFirstBad row.kind layout bytes.now i) }
 {
@@ -61,7 +62,7 @@ pub fn read_row(row: Cube, layout: Layout, bytes: &[u8], samples: &mut [u16]) ->
 /// Copies the samples of a cube of one row, band after band.
 fn copy_bands(row: &Cube, samples: &mut [u16])
     requires one { row.now.shape.rows ≡ 1 }
-    requires long { length samples.old ≡ row_size row.now.shape }
+    requires long { length samples.old ≡ samples_of_row row.now.shape }
     ensures copied { AreBandRows row.now samples.new }
     ensures long { length samples.new ≡ length samples.old }
 {

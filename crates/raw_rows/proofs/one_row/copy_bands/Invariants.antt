@@ -2,8 +2,8 @@ use Rattle.std.proofs.Common.{◌≡◌, ◌+◌, ◌-◌, ◌*◌, ◌<◌, ◌
 use Rattle.std.specs.Prelude.{slice_index}
 use Rattle.cube_core.specs.Image.{sample_at}
 use Rattle.cube_core.specs.Kind.{sample_of}
-use Rattle.raw_streams.specs.Rows.{samples_of_row}
-use Rattle.raw_streams.proofs.rows.copy_bands.Given as goal
+use Rattle.raw_rows.specs.OneRow.{samples_of_row}
+use Rattle.raw_rows.proofs.one_row.copy_bands.Given as goal
 
 abbrev pub invariant-loop-z : goal.invariant-loop-z
 invariant-loop-z l = record {

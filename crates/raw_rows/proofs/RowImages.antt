@@ -20,7 +20,7 @@ use Rattle.cube_core.proofs.PartBytes.{bytes_of_place, front_piece, piece_after,
 use Rattle.cube_core.proofs.RawBytes.{length-raw_bytes}
 use Rattle.cube_core.proofs.Raws.{bytes_there, lawful_order, place_of}
 use Rattle.cube_core.proofs.Written.{sample_there}
-use Rattle.raw_streams.specs.Rows.{InterleavesBands, one_row, samples_of_row}
+use Rattle.raw_rows.specs.OneRow.{ComesByRows, one_row, samples_of_row}
 
 -- ---- where a place stands
 
@@ -33,11 +33,11 @@ index_bi : (s : Sizes) (depth : ℕ) (p : Place) → place_index s (Bi depth) p 
 unfolding place_index row_place
 index_bi s depth p = grind arith
 
-index_by_row : (l : Layout) (s : Sizes) (p : Place) → InterleavesBands l.order
+index_by_row : (l : Layout) (s : Sizes) (p : Place) → ComesByRows l.order
     → place_index s (order_of l.order s) p ≡ p.y * samples_of_row s + place_index (one_row s) (order_of l.order (one_row s)) (row_place p)
 index_by_row l s p interleaved = by_order l.order interleaved
   where
-    by_order : (o : RawOrder) → InterleavesBands o
+    by_order : (o : RawOrder) → ComesByRows o
         → place_index s (order_of o s) p ≡ p.y * samples_of_row s + place_index (one_row s) (order_of o (one_row s)) (row_place p)
     by_order raw.Bsq none = absurd none
     by_order raw.Bil some = index_bi s 1 p
@@ -69,7 +69,7 @@ raw_long c s l shape layout some = length-raw_bytes c l layout (rw shape some) �
 
 -- ---- one more row
 
-module _ (s : Sizes) (k : SampleKind) (l : Layout) (c d r : Image) (y : ℕ) (before bytes : List ℕ) (layout : IsLayout l) (interleaved : InterleavesBands l.order)
+module _ (s : Sizes) (k : SampleKind) (l : Layout) (c d r : Image) (y : ℕ) (before bytes : List ℕ) (layout : IsLayout l) (interleaved : ComesByRows l.order)
     (some : 0 < sample_count s) (row : y < s.rows) (found : IsFound s k l before (y * samples_of_row s) (Ok c)) (cube : IsCube d) (shape : d.shape ≡ s)
     (kind : d.kind ≡ k) (row_shape : r.shape ≡ one_row s) (row_kind : r.kind ≡ k) (row_raw : raw_bytes r l ≡ bytes)
     (row_fits : HaveBytes r l (samples_of_row s)) (row_samples : AreSamples k l bytes (samples_of_row s))
