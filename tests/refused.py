@@ -90,6 +90,11 @@ BLOCKS = ["--coder", "block", "--block", 8, "--reference", 4]
 COMMANDS = {
     "compress, sample-adaptive": (["compress", *SIZES, "scene.raw", "out"], [MEMORY]),
     "compress, block-adaptive": (["compress", *SIZES, *BLOCKS, "--order", "bi", "--depth", 2, "scene.raw", "out"], [MEMORY]),
+    "compress, row by row": (["compress", *SIZES, "--layout", "bil", "--order", "bi", "scene.raw", "out"], [MEMORY]),
+    "compress, row by row, block-adaptive": (
+        ["compress", *SIZES, *BLOCKS, "--layout", "bip", "--order", "bi", "--depth", 6, "scene.raw", "out"],
+        [MEMORY],
+    ),
     "compress, one predictor": (["compress", *SIZES, "--predictors", 1, "scene.raw", "out"], [MEMORY, THREAD]),
     "compress, three predictors": (["compress", *SIZES, "--predictors", 3, "--slots", 8, "scene.raw", "out"], [MEMORY, THREAD]),
     "expand, sample-adaptive": (["expand", "sample.file", "out"], [MEMORY]),
@@ -217,22 +222,30 @@ NAMED = {b"write_header", b"read_header", b"BitWriter::reserve", b"lane", b"Weav
 EVERYTHING = {b"everything"}
 
 
-def usually_asked(room, word, refuse):
-    """Returns how many allocations `refused_allocations WORD` asks for in the middle one of five runs: which of its threads goes first may
-    decide about one or two."""
+def all_asked(room, word, refuse, runs):
+    """Returns how many allocations `refused_allocations WORD` asks for in each of so many runs: which of its threads goes first may decide
+    about one or two."""
     counts = []
-    for _ in range(5):
+    for _ in range(runs):
         room.run([word], refuse=refuse, program=CALLS)
         room.met()
         counts.append(room.asked())
-    return statistics.median(counts)
+    return counts
+
+
+def asks_no_more(room, word, nth, asked):
+    """Returns whether the program asks for no more allocations where the one with this number is refused: a middle run of few, or, where
+    chance decides about that, many runs in the mean. One that hides a refusal asks for one more in each run."""
+    if statistics.median(all_asked(room, word, nth, 5)) <= asked:
+        return True
+    return statistics.mean(all_asked(room, word, nth, 30)) < statistics.mean(all_asked(room, word, 0, 30)) + 0.6
 
 
 def each_call(room, word):
     """Refuses each allocation of `refused_allocations WORD` in turn. Returns the lines of an undisturbed run, the number of runs in
     which a refused library call is repeated, and the names of those calls."""
     status, _, wanted = room.run([word], refuse=0, program=CALLS)
-    asked = usually_asked(room, word, 0)
+    asked = statistics.median(all_asked(room, word, 0, 5))
     lines, last = wanted.rsplit(b"made again: ", 1)
     room.expect(f"calls, {word}", (status, last) == (DONE, b"0\n"), wanted)
     again, names, unmet = 0, set(), 0
@@ -250,7 +263,7 @@ def each_call(room, word):
         early = found[0] != DONE and found[2] == b""
         repeated = found[2].startswith(lines + b"made again: 1\n")
         # A program that does without memory asks for no more than before; one that hides a refusal has to ask again.
-        needless = found[2] == wanted and usually_asked(room, word, nth) <= asked
+        needless = found[2] == wanted and asks_no_more(room, word, nth, asked)
         room.expect(f"calls, {word}: call {nth} refused", early or repeated or needless, (found, asked))
         called = set(found[2].splitlines()[lines.count(b"\n") + 1 :]) if repeated else set()
         again += repeated and called != EVERYTHING
