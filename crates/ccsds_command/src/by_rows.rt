@@ -43,6 +43,9 @@ pub(crate) fn goes_by_rows(settings: &CompressSettings) -> bool
 }
 
 /// Returns the file of the cube whose raw bytes the source has. Beside the file, it keeps the row that is read, and the row above.
+///
+/// It isn't inlined: an encoder of rows stands on the stack, which no other command should need.
+#[inline(never)]
 pub(crate) fn file_by_rows<S: Source>(
     alloc: Global,
     source: &mut S,
