@@ -78,7 +78,7 @@ module _ (c d : Image) (n : ℕ) (rows : HaveSameRows c d n) where
           let first : a < c.shape.bands = omega (arith, bands 0 (omega arith)) in
           ap₂ (λ v vs. v ∷ vs) (residual_there a x first column) (column_there (suc a) m x (λ k lt. omega (arith, bands (suc k) (omega (arith, lt)))) column)
 
-      row_there : (a m : ℕ) → ((k : ℕ) → k < m → a + k < c.shape.bands) → row_of p c (from a m) y ≡ row_of p d (from a m) y
+      pub row_there : (a m : ℕ) → ((k : ℕ) → k < m → a + k < c.shape.bands) → row_of p c (from a m) y ≡ row_of p d (from a m) y
       unfolding row_of
       row_there a m bands =
           let columns : c.shape.columns ≡ d.shape.columns = ap (λ (s : Sizes). s.columns) rows.alike.shape in
@@ -106,7 +106,7 @@ module _ (c d : Image) (n : ℕ) (rows : HaveSameRows c d n) where
 
 -- ---- the images of some rows, and of more
 
-row_end : (s : Sizes) (n z y x : ℕ) → IsPlace s z y x → y < n → index_by_rows s z y x < n * row_size s
+pub row_end : (s : Sizes) (n z y x : ℕ) → IsPlace s z y x → y < n → index_by_rows s z y x < n * row_size s
 row_end s n z y x place lt =
     let bands : suc y * s.bands ≤ n * s.bands = mul-le (suc y) s.bands n s.bands lt (omega arith) in
     let next : suc y * s.bands ≡ y * s.bands + s.bands = grind arith in

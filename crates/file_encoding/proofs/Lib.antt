@@ -1,3 +1,4 @@
+pub mod ByPlanes
 pub mod ByRows
 pub mod RowSteps
 pub mod Coders
@@ -5,8 +6,12 @@ pub mod Columns
 pub mod Encoding
 pub mod Endings
 pub mod Groups
+pub mod KeptPlanes
 pub mod KeptRows
+pub mod NearBands
 pub mod Owning
+pub mod PlaneGroups
+pub mod PlaneRows
 pub mod RowPieces
 pub mod Runs
 pub mod Sending

@@ -1,3 +1,4 @@
+pub mod ByPlanes
 pub mod ByRows
 pub mod Coding
 pub mod CodingLaws

@@ -1,0 +1,34 @@
+use Rattle.std.proofs.Common.{◌≡◌, ◌*◌, ◌^◌, ◌<◌, ℕ, List, length, min, refl, ap₂, arith, rules, replicate}
+use Rattle.std.proofs.lemmas.Nat.{pow_pos}
+use Rattle.header_bits.specs.declared.params.Params.{Params}
+use Rattle.header_bits.proofs.Items.{all_replicate}
+use Rattle.sample_prediction.specs.HandedRows.{row_size}
+use Rattle.file_encoding.specs.ByPlanes.{IsRow, most_at_once, most_kept, plane_size}
+use Rattle.file_encoding.proofs.PlaneRows.{start_planes}
+use Rattle.file_encoding.proofs.plane_encoder.PlaneEncoder.new.Goals as goal
+
+zeros : (p : Params) (row : List ℕ) (n : ℕ) → row ≡ replicate n 0 → length row ≡ row_size p.shape → IsRow p row
+zeros p row n is size = record { size = size; range = rw is (all_replicate (λ v. v < 2 ^ p.kind.bits) n 0 (pow_pos p.kind.bits)) }
+
+pub returns-clause-under_way : goal.returns-clause-under_way
+returns-clause-under_way c =
+    let p = c.args.params.now in
+    let made = c.in_ok-bands.ensures in
+    let row = ap₂ (λ a b. a * b) c.bands-all.ensures.value c.columns.ensures.value in
+    let plane : c.rows.result * c.columns-2.result ≡ plane_size p.shape = ap₂ (λ a b. a * b) c.rows.ensures.value c.columns-2.ensures.value in
+    let planes : c.min-most.result ≡ most_kept p = omega (arith, c.min-most.ensures, c.bands-all.ensures.value) in
+    let bands : c.min.result ≡ min most_at_once p.shape.bands = omega (arith, c.min.ensures, c.bands-all.ensures.value) in
+    let most : c.min-most.result * (c.rows.result * c.columns-2.result) ≡ most_kept p * plane_size p.shape = ap₂ (λ a b. a * b) planes plane in
+    let group : c.min.result * (c.rows.result * c.columns-2.result) ≡ min most_at_once p.shape.bands * plane_size p.shape = ap₂ (λ a b. a * b) bands plane in
+    let kept : length c.in_ok-kept.kept.items ≡ most_kept p * plane_size p.shape = omega (arith, most, c.in_ok-kept.ensures.len, c.in_ok-kept.kept.ok.0) in
+    let room : length c.in_ok-room.room.items ≡ min most_at_once p.shape.bands * plane_size p.shape =
+    omega (arith, group, c.in_ok-room.ensures.len, c.in_ok-room.room.ok.0) in
+    let row_long : c.bands-all.result * c.columns.result ≡ row_size p.shape = row in
+    let present_zeros : c.in_ok-present.present.items ≡ replicate (c.bands-all.result * c.columns.result) 0 = search (rules, c.in_ok-present.ensures.items_if_clones_equal) in
+    let above_zeros : c.in_ok-above.above.items ≡ replicate (c.bands-all.result * c.columns.result) 0 = search (rules, c.in_ok-above.ensures.items_if_clones_equal) in
+    let present_long : length c.in_ok-present.present.items ≡ row_size p.shape = omega (arith, row_long, c.in_ok-present.ensures.len, c.in_ok-present.present.ok.0) in
+    let above_long : length c.in_ok-above.above.items ≡ row_size p.shape = omega (arith, row_long, c.in_ok-above.ensures.len, c.in_ok-above.above.ok.0) in
+    let present : IsRow p c.in_ok-present.present.items = zeros p c.in_ok-present.present.items (c.bands-all.result * c.columns.result) present_zeros present_long in
+    let above : IsRow p c.in_ok-above.above.items = zeros p c.in_ok-above.above.items (c.bands-all.result * c.columns.result) above_zeros above_long in
+    start_planes _ _ c.requires.lawful c.requires.order refl c.none.ensures refl kept present above (omega (arith, room)) (omega (arith, made.len, c.in_ok-bands.bands.ok.0))
+    made.along made.first c.in_ok-end.ensures.coded
