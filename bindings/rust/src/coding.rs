@@ -84,28 +84,12 @@ pub(crate) fn room_for<T>(count: u64) -> Result<Vec<T>, Fault> {
 /// ```
 pub fn encode(params: &Params, layout: Layout, raw: &[u8]) -> Result<Vec<u8>, Fault> {
     params.check()?;
-    let (weights, accumulators) = (params.weight_values(), params.accumulators());
     // Bytes of another length are refused before anything is written.
     let fits = params.raw_length(layout)? == raw.len() as u64;
     let mut file: Vec<u8> = room_for(if fits { params.bound()? } else { 0 })?;
     let mut length = 0;
-    // SAFETY: all pointers are valid, each slice has as many items as are said, and `file` as much room as its capacity.
-    answer(|fault| unsafe {
-        ffi::ccsds123_encode(
-            &params.raw(),
-            weights.as_ptr(),
-            weights.len(),
-            accumulators.as_ptr(),
-            accumulators.len(),
-            &layout.raw(),
-            raw.as_ptr(),
-            raw.len(),
-            file.as_mut_ptr(),
-            file.capacity(),
-            &mut length,
-            fault,
-        )
-    })?;
+    // SAFETY: all pointers are valid, the slice has as many bytes as are said, and `file` as much room as its capacity.
+    answer(|fault| unsafe { ffi::ccsds123_encode(&params.scene(layout), raw.as_ptr(), raw.len(), file.as_mut_ptr(), file.capacity(), &mut length, fault) })?;
     // SAFETY: the call wrote that many bytes.
     unsafe { file.set_len(length as usize) };
     file.shrink_to_fit();

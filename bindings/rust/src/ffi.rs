@@ -80,32 +80,6 @@ extern "C" {
 
     pub fn ccsds123_raw_length(params: *const Params, layout: *const Layout, bytes: *mut u64, fault: *mut Fault) -> i32;
 
-    pub fn ccsds123_encode(
-        params: *const Params,
-        weights: *const i32,
-        weight_count: usize,
-        accumulators: *const u8,
-        accumulator_count: usize,
-        layout: *const Layout,
-        raw: *const u8,
-        raw_length: usize,
-        file: *mut u8,
-        file_room: usize,
-        file_length: *mut u64,
-        fault: *mut Fault,
-    ) -> i32;
-
-    pub fn ccsds123_encoder_begin(
-        encoder: *mut Encoder,
-        params: *const Params,
-        weights: *const i32,
-        weight_count: usize,
-        accumulators: *const u8,
-        accumulator_count: usize,
-        layout: *const Layout,
-        fault: *mut Fault,
-    ) -> i32;
-
     pub fn ccsds123_encoder_rows(encoder: *mut Encoder, raw: *const u8, raw_length: usize, fault: *mut Fault) -> i32;
 
     pub fn ccsds123_encoder_end(encoder: *mut Encoder, file: *mut u8, file_room: usize, file_length: *mut u64, fault: *mut Fault) -> i32;
@@ -136,3 +110,37 @@ extern "C" {
         fault: *mut Fault,
     ) -> i32;
 }
+
+/// What a scene is coded by: parameters, the entries of their tables, and the layout of its raw bytes.
+pub struct Scene<'a> {
+    pub params: Params,
+    pub weights: &'a [i32],
+    pub accumulators: &'a [u8],
+    pub layout: Layout,
+}
+
+/// Declares a call that takes a scene, whose parts are six arguments of C; others come before and after these, and the fault is the last.
+macro_rules! call_of_scene {
+    ($call:ident($($before:ident: $of:ty),*; $($after:ident: $kind:ty),*)) => {
+        pub unsafe fn $call($($before: $of,)* scene: &Scene, $($after: $kind,)* fault: *mut Fault) -> i32 {
+            extern "C" {
+                fn $call(
+                    $($before: $of,)*
+                    params: *const Params,
+                    weights: *const i32,
+                    weight_count: usize,
+                    accumulators: *const u8,
+                    accumulator_count: usize,
+                    layout: *const Layout,
+                    $($after: $kind,)*
+                    fault: *mut Fault,
+                ) -> i32;
+            }
+            let Scene { params, weights, accumulators, layout } = scene;
+            $call($($before,)* params, weights.as_ptr(), weights.len(), accumulators.as_ptr(), accumulators.len(), layout, $($after,)* fault)
+        }
+    };
+}
+
+call_of_scene!(ccsds123_encode(; raw: *const u8, raw_length: usize, file: *mut u8, file_room: usize, file_length: *mut u64));
+call_of_scene!(ccsds123_encoder_begin(encoder: *mut Encoder;));

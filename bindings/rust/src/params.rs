@@ -1,6 +1,7 @@
 //! The parameters of a coded image, as its header records them.
 
 use crate::ffi;
+use crate::layout::Layout;
 
 /// How an image is predicted and coded. `docs/COMMAND.md` has the range of each member, under the name of its option.
 ///
@@ -166,6 +167,11 @@ impl Params {
             Coder::Sample { start: Start::Each(constants), .. } => constants,
             _ => &[],
         }
+    }
+
+    /// A scene with these parameters, whose raw bytes lie as said, as the library takes it.
+    pub(crate) fn scene(&self, layout: Layout) -> ffi::Scene<'_> {
+        ffi::Scene { params: self.raw(), weights: self.weight_values(), accumulators: self.accumulators(), layout: layout.raw() }
     }
 
     /// The parameters that the library read, with their tables.

@@ -33,21 +33,9 @@ impl RowEncoder {
     /// # Errors
     /// What [`Params::check`] finds; `Choice` of the layout, and of an order or a layout that doesn't interleave bands; `WantOfMemory`.
     pub fn new(params: &Params, layout: Layout) -> Result<RowEncoder, Fault> {
-        let (weights, accumulators) = (params.weight_values(), params.accumulators());
         let mut encoder = RowEncoder { raw: ffi::Encoder { state: null_mut(), is_open: 0 } };
-        // SAFETY: all pointers are valid, each slice has as many items as are said, and the encoder is none.
-        answer(|fault| unsafe {
-            ffi::ccsds123_encoder_begin(
-                &mut encoder.raw,
-                &params.raw(),
-                weights.as_ptr(),
-                weights.len(),
-                accumulators.as_ptr(),
-                accumulators.len(),
-                &layout.raw(),
-                fault,
-            )
-        })?;
+        // SAFETY: all pointers are valid, and the encoder is none.
+        answer(|fault| unsafe { ffi::ccsds123_encoder_begin(&mut encoder.raw, &params.scene(layout), fault) })?;
         Ok(encoder)
     }
 
