@@ -1,11 +1,12 @@
 pub mod Answering
 pub mod HeldValues
-pub mod Interleaved
 pub mod LongBlocks
 pub mod LongFiles
 pub mod LongSamples
 pub mod LooseValues
+pub mod NextRow
 pub mod Putting
 pub mod Refused
 pub mod Refusing
 pub mod SceneRows
+pub mod Together

@@ -135,10 +135,11 @@ unfoldable pub layout_test : LayoutRecord → Ask
 layout_test l =
     choice_test member.Interleave 2 l.interleave and unless (l.bytes == 1 || l.bytes == 2) (refusal.Choice member.Bytes l.bytes)
 
--- bands are interleaved, in the file and in the raw bytes
-unfoldable pub interleaved_test : ParamsRecord → LayoutRecord → Ask
-interleaved_test r l =
-    unless (r.order == 1) (refusal.Choice member.Order r.order) and unless (not (l.interleave == 0)) (refusal.Choice member.Interleave l.interleave)
+-- raw bytes bring the rows that the order codes: bands are interleaved in both, or come one after another in both
+unfoldable pub together_test : ParamsRecord → LayoutRecord → Ask
+together_test r l =
+    unless (not (r.order == 0) || l.interleave == 0) (refusal.Choice member.Order r.order)
+    and unless (r.order == 0 || not (l.interleave == 0)) (refusal.Choice member.Interleave l.interleave)
 
 -- what asking for parameters gives: lawful ones, where all tests pass; or the first refusal, or no memory for a table
 unfoldable pub AsksParams : ParamsRecord → List ℤ → List ℕ → Result Params Refusal → Type 0

@@ -7,7 +7,7 @@ use Rattle.ccsds123.specs.declared.records.ParamsRecord.{ParamsRecord}
 use Rattle.ccsds123.specs.declared.records.LayoutRecord.{LayoutRecord}
 use Rattle.ccsds123.specs.declared.refusal.Refusal.TheVariants as refusal
 use Rattle.ccsds123.specs.declared.refusal.Room.TheVariants as room
-use Rattle.ccsds123.specs.Asked.{Ask, ◌and◌, params_of, params_test, layout_of, layout_test, interleaved_test}
+use Rattle.ccsds123.specs.Asked.{Ask, ◌and◌, params_of, params_test, layout_of, layout_test, together_test}
 use Rattle.ccsds123.specs.Header.{fronted}
 use Rattle.ccsds123.specs.Coding.{IsFileOfRaw, raw_length}
 use Rattle.ccsds123.specs.Scenes.{Scene, row_bytes}
@@ -23,7 +23,7 @@ pub record Beginning : Type 0 where
 
 -- all tests, in their order
 abbrev pub begin_test : Beginning → Ask
-begin_test g = params_test g.params g.weights g.accumulators and layout_test g.layout and interleaved_test g.params g.layout
+begin_test g = params_test g.params g.weights g.accumulators and layout_test g.layout and together_test g.params g.layout
 
 -- the scene of which no row has come
 abbrev pub begun : Beginning → Scene

@@ -7,9 +7,9 @@ use Rattle.cube_core.specs.Layout.{IsLayout, raw_bytes}
 use Rattle.cube_core.specs.Raw.{IsFound}
 use Rattle.header_bits.specs.declared.params.Params.{Params}
 use Rattle.header_bits.specs.Lawful.{IsLawful}
-use Rattle.sample_prediction.specs.HandedRows.{row_size}
-use Rattle.file_encoding.specs.ByRows.{image_so_far, AreAllRows, IsFileOfRows, IsInterleaved, IsUnderWay}
-use Rattle.raw_rows.specs.OneRow.{ComesByRows}
+use Rattle.file_encoding.specs.ByRows.{image_so_far, AreAllRows, IsFileOfRows, IsUnderWay, rows_of_order}
+use Rattle.raw_rows.specs.OneRow.{rows_of_raw, samples_of_row}
+use Rattle.raw_rows.specs.Together.{GoTogether}
 use Rattle.ccsds123.specs.Coding.{IsFileOfRaw}
 use Rattle.ccsds123.specs.declared.scene.SceneEncoder.{SceneEncoder}
 use Rattle.ccsds123.specs.declared.scene.Stage.{Stage}
@@ -21,21 +21,27 @@ pub record Scene : Type 0 where
   pub layout : Layout
   pub raw : List ℕ
 
--- the bytes of a row of all bands
+-- the samples and the bytes of a row, and how many rows there are
+abbrev pub samples_in_row : Params → Layout → ℕ
+samples_in_row p l = samples_of_row (rows_of_raw l.order p.shape)
+
 abbrev pub row_bytes : Params → Layout → ℕ
-row_bytes p l = row_size p.shape * l.bytes
+row_bytes p l = samples_in_row p l * l.bytes
+
+abbrev pub all_rows : Params → Layout → ℕ
+all_rows p l = (rows_of_raw l.order p.shape).rows
 
 -- an image that has the rows which have come, and the scene: the image's raw bytes up to the last of these rows
 abbrev pub image_in : SceneEncoder → Image
 image_in s = image_so_far s.params s.handed.offsets
 
 abbrev pub scene_of : SceneEncoder → Scene
-scene_of s = record { params = s.params; layout = s.layout; raw = take (s.rows * row_size s.params.shape * s.layout.bytes) (raw_bytes (image_in s) s.layout) }
+scene_of s = record { params = s.params; layout = s.layout; raw = take (s.rows * samples_in_row s.params s.layout * s.layout.bytes) (raw_bytes (image_in s) s.layout) }
 
 -- the rows are being encoded; or all of them were, and this is their file
 abbrev pub IsAtStage : Params → List ℕ → ℕ → Stage → Type 0
 IsAtStage p offsets y (stage.Rows e) = IsUnderWay p e × (e.offsets ≡ offsets) × (e.y ≡ y)
-IsAtStage p offsets y (stage.File file) = (y ≡ p.shape.rows) × IsFileOfRows p offsets file.items
+IsAtStage p offsets y (stage.File file) = (y ≡ (rows_of_order p.order p.shape).rows) × IsFileOfRows p offsets file.items
 
 -- all rows were encoded
 abbrev pub IsAllThere : Stage → Type 0
@@ -50,13 +56,12 @@ IsWrittenAs p offsets (stage.File file) = IsFileOfRows p offsets file.items
 -- an encoder keeps what it was begun with, and has encoded the rows that have come
 pub record IsOpen (s : SceneEncoder) : Type 0 where
   pub lawful : IsLawful s.params
-  pub order : IsInterleaved s.params.order
   pub layout : IsLayout s.layout
-  pub rows : ComesByRows s.layout.order
-  pub few : s.rows ≤ s.params.shape.rows
-  pub size : length s.handed.offsets ≡ s.rows * row_size s.params.shape
+  pub together : GoTogether s.layout.order s.params.order
+  pub few : s.rows ≤ all_rows s.params s.layout
+  pub size : length s.handed.offsets ≡ s.rows * samples_in_row s.params s.layout
   pub range : AllByRecursion (λ v. v < 2 ^ s.params.kind.bits) s.handed.offsets
-  pub found : IsFound s.params.shape s.params.kind s.layout (scene_of s).raw (s.rows * row_size s.params.shape) (Ok (image_in s))
+  pub found : IsFound s.params.shape s.params.kind s.layout (scene_of s).raw (s.rows * samples_in_row s.params s.layout) (Ok (image_in s))
   pub stage : IsAtStage s.params s.handed.offsets s.rows s.stage
 
 -- the file is made, and is that of the raw bytes which have come

@@ -7,7 +7,7 @@ ghost use Rattle.header_bits.specs.Lawful.{IsLawful};
 ghost use Rattle.ccsds123.specs.declared.refusal.Refusal.TheVariants.{Coder as OfCoder};
 ghost use Rattle.ccsds123.specs.Asked.{unless, by_coder, is_set, shape_of, kind_of, order_by, start_by, count_by, coder_of as coder_by};
 ghost use Rattle.ccsds123.specs.Asked.{params_of as params_by, size_test, choice_test, shape_test, raw_shape_test, weights_test, accumulators_test, params_test};
-ghost use Rattle.ccsds123.specs.Asked.{has_accumulators as have_accumulators, raw_order_by, layout_of as layout_by, layout_test, interleaved_test, AsksParams};
+ghost use Rattle.ccsds123.specs.Asked.{has_accumulators as have_accumulators, raw_order_by, layout_of as layout_by, layout_test, together_test, AsksParams};
 
 use crate::records::{LayoutRecord, ParamsRecord};
 use crate::refusal::{Member, Refusal};
@@ -205,21 +205,21 @@ pub fn layout_of(given: &LayoutRecord) -> Result<Layout, Refusal>
     })
 }
 
-/// Refuses an order in which bands aren't interleaved, and then a layout in which they aren't.
-#[tactic(auto, unfolding(crate::specs::Asked::interleaved_test))]
-pub fn test_interleaved(params: &ParamsRecord, layout: &LayoutRecord) -> Result<(), Refusal>
-    ensures { result ≡ interleaved_test params.now layout.now }
+/// Refuses a band-sequential order where the layout interleaves bands, and then a band-sequential layout where the order does.
+#[tactic(auto, unfolding(crate::specs::Asked::together_test))]
+pub fn test_together(params: &ParamsRecord, layout: &LayoutRecord) -> Result<(), Refusal>
+    ensures { result ≡ together_test params.now layout.now }
 {
     let order = Refusal::Choice {
         member: Member::Order,
         value: params.order,
     };
-    unless(params.order == 1, order)?;
+    unless(params.order != 0 || layout.interleave == 0, order)?;
     let interleave = Refusal::Choice {
         member: Member::Interleave,
         value: layout.interleave,
     };
-    unless(layout.interleave != 0, interleave)
+    unless(params.order == 0 || layout.interleave != 0, interleave)
 }
 
 fn raw_order_of(given: &LayoutRecord) -> RawOrder

@@ -7,7 +7,7 @@ ghost use Rattle.ccsds123.specs.Rows.{Begins, begin_test, begun, EndsInto, Takes
 ghost use Rattle.ccsds123.specs.Scenes.{IsOpen, scene_of, told_scene};
 ghost use Rattle.ccsds123.specs.declared.refusal.Refusal.TheVariants.{Coder as OfCoder};
 
-use crate::asked::{layout_of, params_of, test_interleaved};
+use crate::asked::{layout_of, params_of, test_together};
 use crate::handle::{EncoderRecord, put_scene, take_scene};
 use crate::records::{FaultRecord, LayoutRecord, ParamsRecord};
 use crate::refusal::{Refusal, Room, answer};
@@ -18,8 +18,8 @@ use std::alloc::Global;
 
 /// Begins to encode a scene whose raw bytes come row after row. An encoder that the handle has already is freed before.
 ///
-/// The refusals, in this order: those of the parameters and tables; of the layout; `Choice` of an order and of a layout that
-/// aren't interleaved; `WantOfMemory`. There is then no encoder.
+/// The refusals, in this order: those of the parameters and tables; of the layout; `Choice` of a band-sequential order where the
+/// layout interleaves bands, and of a band-sequential layout where the order does; `WantOfMemory`. There is then no encoder.
 #[unsafe(no_mangle)]
 pub extern "C" fn ccsds123_encoder_begin(
     alloc: Global,
@@ -72,7 +72,7 @@ fn new_scene(
 {
     let asked = params_of(alloc, params, weights, accumulators)?;
     let laid = layout_of(layout)?;
-    test_interleaved(params, layout)?;
+    test_together(params, layout)?;
     match SceneEncoder::new(alloc, asked, laid) {
         Ok(scene) => boxed(alloc, scene),
         Err(fault) => Err(Refusal::Coder(fault)),

@@ -6,20 +6,20 @@ ghost use Rattle.cube_core.specs.declared.fault.Fault.TheVariants.{WantOfMemory}
 ghost use Rattle.cube_core.specs.Layout.{IsLayout};
 ghost use Rattle.header_bits.specs.declared.params.Params.{Params as Parameters};
 ghost use Rattle.header_bits.specs.Lawful.{IsLawful};
-ghost use Rattle.sample_prediction.specs.HandedRows.{row_size};
-ghost use Rattle.file_encoding.specs.ByRows.{IsInterleaved};
 ghost use Rattle.ccsds123.specs.Coding.{IsFileOfRaw};
-ghost use Rattle.raw_rows.specs.OneRow.{one_row as row_of};
+ghost use Rattle.sample_prediction.specs.HandedRows.{row_size};
+ghost use Rattle.file_encoding.specs.ByRows.{rows_of_order};
+ghost use Rattle.raw_rows.specs.OneRow.{one_row as row_of, rows_of_raw};
+ghost use Rattle.raw_rows.specs.Together.{GoTogether};
 ghost use Rattle.ccsds123.specs.Rows.{AreMoreRows, IsEndRefusal, IsRowRefusal, IsRowsRefusal, IsWrongCount, with_more};
-ghost use Rattle.raw_rows.specs.OneRow.{ComesByRows};
-ghost use Rattle.ccsds123.specs.Scenes.{IsAllThere, IsAtStage, IsOpen, IsWritten, IsWrittenAs, row_bytes, scene_of};
+ghost use Rattle.ccsds123.specs.Scenes.{IsAllThere, IsAtStage, IsOpen, IsWritten, IsWrittenAs, all_rows, row_bytes, samples_in_row, scene_of};
 
 use cube_core::cube::Cube;
 use cube_core::fault::Fault;
 use cube_core::layout::Layout;
 use file_encoding::row_encoder::RowEncoder;
 use header_bits::params::Params;
-use raw_rows::one_row::{one_row, row_samples, take_row};
+use raw_rows::one_row::{one_row, row_count, row_samples, take_row};
 use sample_prediction::handed::HandedRows;
 use std::alloc::Global;
 use std::mem::replace;
@@ -30,7 +30,7 @@ pub struct SceneEncoder {
     params: Params,
     layout: Layout,
     stage: Stage,
-    rows: u32,
+    rows: u64,
     handed: HandedRows,
 }
 
@@ -42,14 +42,14 @@ enum Stage {
 }
 
 impl SceneEncoder {
-    /// Returns the encoder of a scene of which no row has come, with lawful parameters. Order and layout interleave the bands.
+    /// Returns the encoder of a scene of which no row has come, with lawful parameters. Both order and layout interleave the bands, or
+    /// neither does.
     ///
     /// Returns `WantOfMemory` if the encoder's state can't be allocated.
     pub fn new(alloc: Global, params: Params, layout: Layout) -> Result<SceneEncoder, Fault>
         requires lawful { IsLawful params }
-        requires order { IsInterleaved params.order }
         requires layout { IsLayout layout }
-        requires rows { ComesByRows layout.order }
+        requires together { GoTogether layout.order params.order }
         ensures open { IfOk result IsOpen }
         ensures none { IfOk result (λ s. scene_of s ≡ record { params = params; layout = layout; raw = [] }) }
         ensures refused { IfErr result (λ e. e ≡ WantOfMemory) }
@@ -77,8 +77,8 @@ impl SceneEncoder {
     {
         self.test_rows(raw)?;
         let shape = self.params.shape;
-        let row = Cube::new(alloc, one_row(shape), self.params.kind)?;
-        let mut samples = vec![in alloc; 0u16; row_samples(shape) as usize]?;
+        let row = Cube::new(alloc, one_row(self.layout, shape), self.params.kind)?;
+        let mut samples = vec![in alloc; 0u16; row_samples(self.layout, shape) as usize]?;
         self.take_each(row, raw, &mut samples)
     }
 
@@ -89,9 +89,9 @@ impl SceneEncoder {
         ensures refused { IfErr result (IsWrongCount (scene_of self.now) raw.now) }
     {
         let shape = self.params.shape;
-        let row = row_samples(shape) * u64::from(self.layout.bytes);
+        let row = row_samples(self.layout, shape) * u64::from(self.layout.bytes);
         let wanted = self.layout.length(shape);
-        let had = u64::from(self.rows) * row + raw.len() as u64;
+        let had = self.rows * row + raw.len() as u64;
         if raw.len() as u64 % row == 0 && had <= wanted {
             Ok(())
         } else {
@@ -103,8 +103,8 @@ impl SceneEncoder {
     fn take_each(&mut self, row: Cube, raw: &[u8], samples: &mut [u16]) -> Result<(), Fault>
         requires open { IsOpen self.old }
         requires more { AreMoreRows (scene_of self.old) raw.now }
-        requires row { (row.shape ≡ row_of self.old.params.shape) × (row.kind ≡ self.old.params.kind) }
-        requires samples { length samples.old ≡ row_size self.old.params.shape }
+        requires row { (row.shape ≡ row_of (rows_of_raw self.old.layout.order self.old.params.shape)) × (row.kind ≡ self.old.params.kind) }
+        requires samples { length samples.old ≡ samples_in_row self.old.params self.old.layout }
         ensures open { OnOk result (IsOpen self.new) }
         ensures taken { OnOk result (scene_of self.new ≡ with_more (scene_of self.old) raw.now) }
         ensures refused { IfErr result (IsRowRefusal (scene_of self.old) raw.now) }
@@ -121,13 +121,13 @@ impl SceneEncoder {
     /// Takes the next row.
     fn take_row(&mut self, row: Cube, bytes: &[u8], samples: &mut [u16]) -> Result<Cube, Fault>
         requires open { IsOpen self.old }
-        requires more { self.old.rows < self.old.params.shape.rows }
-        requires row { (row.shape ≡ row_of self.old.params.shape) × (row.kind ≡ self.old.params.kind) }
+        requires more { self.old.rows < all_rows self.old.params self.old.layout }
+        requires row { (row.shape ≡ row_of (rows_of_raw self.old.layout.order self.old.params.shape)) × (row.kind ≡ self.old.params.kind) }
         requires bytes { length bytes.now ≡ row_bytes self.old.params self.old.layout }
-        requires samples { length samples.old ≡ row_size self.old.params.shape }
+        requires samples { length samples.old ≡ samples_in_row self.old.params self.old.layout }
         ensures open { OnOk result (IsOpen self.new) }
         ensures taken { OnOk result ((scene_of self.new ≡ with_more (scene_of self.old) bytes.now) × (self.new.rows ≡ self.old.rows + 1)) }
-        ensures row { IfOk result (λ c. (c.shape ≡ row_of self.old.params.shape) × (c.kind ≡ self.old.params.kind)) }
+        ensures row { IfOk result (λ c. (c.shape ≡ row_of (rows_of_raw self.old.layout.order self.old.params.shape)) × (c.kind ≡ self.old.params.kind)) }
         ensures long { length samples.new ≡ length samples.old }
         ensures refused { IfErr result (IsRowRefusal (scene_of self.old) bytes.now) }
     {
@@ -137,18 +137,18 @@ impl SceneEncoder {
                 Ok(row)
             }
             Err(index) => Err(Fault::SampleRange {
-                index: u64::from(self.rows) * row_samples(self.params.shape) + index,
+                index: self.rows * row_samples(self.layout, self.params.shape) + index,
             }),
         }
     }
 
-    /// Encodes the next row: band after band, each sample as its offset from the least sample of the kind.
+    /// Encodes the next row: each sample as its offset from the least sample of the kind.
     ///
     /// Returns `WantOfMemory` if an allocation fails.
     fn put_row(&mut self, samples: &[u16]) -> Result<(), Fault>
         requires open { IsOpen self.old }
-        requires more { self.old.rows < self.old.params.shape.rows }
-        requires size { length samples.now ≡ row_size self.old.params.shape }
+        requires more { self.old.rows < all_rows self.old.params self.old.layout }
+        requires size { length samples.now ≡ samples_in_row self.old.params self.old.layout }
         requires range { AllByRecursion (λ v. v < 2 ^ self.old.params.kind.bits) samples.now }
         ensures same { OnOk result ((self.new.params ≡ self.old.params) × (self.new.layout ≡ self.old.layout)) }
         ensures put { OnOk result ((self.new.rows ≡ self.old.rows + 1) × (self.new.handed.offsets ≡ self.old.handed.offsets ++ samples.now)) }
@@ -173,11 +173,11 @@ impl SceneEncoder {
         ensures refused { IfErr result (IsEndRefusal (scene_of self.old)) }
     {
         let shape = self.params.shape;
-        if self.rows != shape.rows() {
-            let row = row_samples(shape) * u64::from(self.layout.bytes);
+        if self.rows != row_count(self.layout, shape) {
+            let row = row_samples(self.layout, shape) * u64::from(self.layout.bytes);
             return Err(Fault::RawLength {
                 wanted: self.layout.length(shape),
-                had: u64::from(self.rows) * row,
+                had: self.rows * row,
             });
         }
         let stage = replace(&mut self.stage, Stage::File(Vec::new(alloc)));
@@ -202,10 +202,10 @@ impl Stage {
     ///
     /// Returns `WantOfMemory` if an allocation fails.
     fn put(&mut self, params: &Params, samples: &[u16]) -> Result<(), Fault>
-        requires more { (offsets : List ℕ) × (y : ℕ) × IsAtStage params.now offsets y self.old × (y < params.now.shape.rows) }
-        requires size { length samples.now ≡ row_size params.now.shape }
+        requires more { (offsets : List ℕ) × (y : ℕ) × IsAtStage params.now offsets y self.old × (y < (rows_of_order params.now.order params.now.shape).rows) }
+        requires size { length samples.now ≡ row_size (rows_of_order params.now.order params.now.shape) }
         requires range { AllByRecursion (λ v. v < 2 ^ params.now.kind.bits) samples.now }
-        ensures put { OnOk result ((offsets : List ℕ) (y : ℕ) → IsAtStage params.now offsets y self.old → y < params.now.shape.rows
+        ensures put { OnOk result ((offsets : List ℕ) (y : ℕ) → IsAtStage params.now offsets y self.old → y < (rows_of_order params.now.order params.now.shape).rows
             → IsAtStage params.now (offsets ++ samples.now) (y + 1) self.new) }
         ensures refused { IfErr result (λ e. e ≡ WantOfMemory) }
     {
@@ -220,7 +220,7 @@ impl Stage {
     /// Returns `WantOfMemory` if it can't be allocated.
     fn written(self) -> Result<Stage, Fault>
         requires { IsAllThere self }
-        ensures written { IfOk result (λ s. (p : Parameters) (offsets : List ℕ) → IsAtStage p offsets p.shape.rows self → IsWrittenAs p offsets s) }
+        ensures written { IfOk result (λ s. (p : Parameters) (offsets : List ℕ) → IsAtStage p offsets (rows_of_order p.order p.shape).rows self → IsWrittenAs p offsets s) }
         ensures refused { IfErr result (λ e. e ≡ WantOfMemory) }
     {
         match self {

@@ -2,11 +2,11 @@
 use Rattle.std.specs.Prelude.{◌*◌, ℕ, List, Option, Ok}
 use Rattle.cube_core.specs.Raw.{IsFound}
 use Rattle.file_encoding.specs.ByRows.{RowEncoderState, image_so_far}
-use Rattle.raw_rows.specs.OneRow.{samples_of_row}
+use Rattle.raw_streams.specs.Rows.{samples_in_row}
 use Rattle.command_devices.specs.Devices.{Gave}
 use Rattle.command_words.specs.declared.settings.CompressSettings.{CompressSettings}
 
 -- the source gave the raw bytes of the rows that an encoder was handed
 abbrev pub HasCome : CompressSettings → RowEncoderState → Option (List ℕ) → Option (List ℕ) → Type 0
 HasCome s e left now = (bytes : List ℕ) × Gave left now bytes
-    × IsFound s.params.shape s.params.kind s.layout bytes (e.y * samples_of_row s.params.shape) (Ok (image_so_far s.params e.offsets))
+    × IsFound s.params.shape s.params.kind s.layout bytes (e.y * samples_in_row s.params.shape s.layout) (Ok (image_so_far s.params e.offsets))

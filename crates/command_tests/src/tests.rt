@@ -8,6 +8,7 @@ mod inspect;
 mod lines;
 mod options;
 mod raw_bytes;
+mod read_by_planes;
 mod read_by_rows;
 mod reading_and_writing;
 mod refused_lines;

@@ -19,8 +19,8 @@ use Rattle.sample_prediction.proofs.HandedRows.{sample_by_rows}
 use Rattle.predict_core.specs.Following.{PredictorState}
 use Rattle.file_encoding.specs.Own.{row_of, rows_of}
 use Rattle.file_encoding.specs.Walks.{IsSeen, AreAt}
-use Rattle.file_encoding.specs.ByPlanes.{HasBands, HasLines, IsRow, plane_size}
-use Rattle.file_encoding.proofs.ByRows.{HaveSameRows, are_at_same, image_more, row_end, row_there}
+use Rattle.file_encoding.specs.ByPlanes.{HasBands, HasLinesOf, IsRow, plane_size}
+use Rattle.file_encoding.proofs.ByLines.{HaveSameRows, are_at_same, image_more, row_end, row_there}
 use Rattle.file_encoding.proofs.KeptRows.{row_more, row_before}
 use Rattle.file_encoding.proofs.NearBands.{rows_near}
 use Rattle.file_encoding.proofs.Sending.{same_lists}
@@ -104,7 +104,7 @@ module _ (p : Params) (base many y : ℕ) (planes rows row : List ℕ) (size : l
   pub row_last : row ≡ drop (y * row_size s) all
   row_last = sym (drop-append_seam rows row) ∙ ap (λ n. drop n all) size
 
-  pub rows_more : base + many ≤ s.bands → HasRowsOf s base planes many rows y → HasLines s base y planes many row → HasRowsOf s base planes many all (y + 1)
+  pub rows_more : base + many ≤ s.bands → HasRowsOf s base planes many rows y → HasLinesOf s base y planes many row → HasRowsOf s base planes many all (y + 1)
   rows_more bands old new k y' x lt up column = elim (cases_lt y' y) [
     | inl before ↦
         let place : IsPlace s (base + k) y' x = record { band = omega (arith, bands, lt); row = omega (arith, before, inside); column = column } in

@@ -1,13 +1,15 @@
+pub mod ByLines
 pub mod ByPlanes
 pub mod ByRows
-pub mod RowSteps
 pub mod Coders
 pub mod Columns
 pub mod Encoding
 pub mod Endings
+pub mod FoundRows
 pub mod Groups
 pub mod KeptPlanes
 pub mod KeptRows
+pub mod LineSteps
 pub mod NearBands
 pub mod Owning
 pub mod PlaneGroups

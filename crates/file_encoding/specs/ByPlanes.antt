@@ -129,8 +129,8 @@ HasBands c base planes many = (k y x : ℕ) → k < many → IsPlace c.shape (ba
     → sample_at c (base + k) y x ≡ sample_of c.kind (slice_index_or planes ((k * c.shape.rows + y) * c.shape.columns + x) 0)
 
 -- row y of each of these planes, from band `base` on, is in a row of all bands
-abbrev pub HasLines : Sizes → ℕ → ℕ → List ℕ → ℕ → List ℕ → Type 0
-HasLines s base y planes many row = (k : ℕ) → k < many
+abbrev pub HasLinesOf : Sizes → ℕ → ℕ → List ℕ → ℕ → List ℕ → Type 0
+HasLinesOf s base y planes many row = (k : ℕ) → k < many
     → take s.columns (drop ((base + k) * s.columns) row) ≡ take s.columns (drop ((k * s.rows + y) * s.columns) planes)
 
 -- the planes of some bands and of the previous ones of each, from band `base` on

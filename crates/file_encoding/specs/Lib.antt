@@ -1,3 +1,4 @@
+pub mod ByLines
 pub mod ByPlanes
 pub mod ByRows
 pub mod Coding

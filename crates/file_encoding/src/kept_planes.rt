@@ -4,7 +4,7 @@ ghost use Rattle.std.specs.Prelude.{◌≡◌, ℕ, ◌+◌, ◌*◌, ◌<◌, �
 ghost use Rattle.std.specs.List.{flat_map};
 ghost use Rattle.cube_core.specs.Image.{Image};
 ghost use Rattle.header_bits.specs.Lawful.{IsLawful};
-ghost use Rattle.file_encoding.specs.ByPlanes.{AreAmong, HasBands, HasLines, IsRow, plane_size};
+ghost use Rattle.file_encoding.specs.ByPlanes.{AreAmong, HasBands, HasLinesOf, IsRow, plane_size};
 ghost use Rattle.file_encoding.specs.Own.{rows_of};
 ghost use Rattle.file_encoding.specs.Walks.{IsSeen, AreAt, bands_of};
 
@@ -79,7 +79,7 @@ fn next_lines(
     requires among { AreAmong params.now base many planes.now [] }
     requires present { IsRow params.now present.old.items }
     requires above { IsRow params.now above.old.items }
-    ensures lines { HasLines params.now.shape base y planes.now many present.new.items }
+    ensures lines { HasLinesOf params.now.shape base y planes.now many present.new.items }
     ensures present { IsRow params.now present.new.items }
     ensures above { IsRow params.now above.new.items }
     ensures first { y ≡ 0 → above.new.items ≡ present.new.items }
@@ -97,7 +97,7 @@ fn put_lines(params: &Params, base: usize, y: u32, planes: &[u16], many: usize, 
     requires place { y < params.now.shape.rows }
     requires among { AreAmong params.now base many planes.now [] }
     requires row { IsRow params.now row.old }
-    ensures lines { HasLines params.now.shape base y planes.now many row.new }
+    ensures lines { HasLinesOf params.now.shape base y planes.now many row.new }
     ensures row { IsRow params.now row.new }
 {
     let columns = params.shape.columns() as usize;

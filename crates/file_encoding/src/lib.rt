@@ -8,6 +8,7 @@ pub mod encoder;
 pub mod file_encoder;
 mod kept_planes;
 pub mod laws;
+pub mod line_encoder;
 mod pieces;
 pub mod plane_encoder;
 pub mod row_encoder;

@@ -1,123 +1,83 @@
 //! Encoding row by row, for images that are larger than memory.
 
-ghost use Rattle.std.specs.Prelude.{◌≡◌, ◌+◌, ◌*◌, ◌<◌, ◌≤◌, ◌^◌, ◌++◌, [], length, IsTrue, IfOk, IfErr, OnOk};
+ghost use Rattle.std.specs.Prelude.{◌≡◌, ◌+◌, ◌<◌, ◌^◌, ◌++◌, [], length, IfOk, IfErr, OnOk};
 ghost use Rattle.std.specs.List.{AllByRecursion};
 ghost use Rattle.cube_core.specs.declared.fault.Fault.TheVariants.{WantOfMemory};
 ghost use Rattle.header_bits.specs.Lawful.{IsLawful};
 ghost use Rattle.header_bits.specs.declared.params.Params.{Params as Parameters};
 ghost use Rattle.sample_prediction.specs.HandedRows.{row_size};
-ghost use Rattle.cube_core.specs.Order.{upto};
-ghost use Rattle.file_encoding.specs.ByRows.{AreAllRows, IsFileOfRows, IsInterleaved, IsUnderWay};
-ghost use Rattle.file_encoding.specs.Ends.{CodesAll, MayCodeAll};
-ghost use Rattle.file_encoding.specs.Own.{line_of};
-ghost use Rattle.file_encoding.specs.Walks.{AreAt, IsSeen, bands_of};
+ghost use Rattle.file_encoding.specs.ByRows.{AreAllRows, IsFileOfRows, IsUnderWay, rows_of_order};
 
-use crate::each_row::{ROOM, send_each_row};
-use crate::file_encoder::FileEncoder;
-use crate::walk::send_line;
+use crate::line_encoder::LineEncoder;
+use crate::plane_encoder::PlaneEncoder;
 use cube_core::fault::Fault;
 use cube_core::order::Order;
 use header_bits::params::Params;
-use predict_core::band::Band;
-use predict_core::bands::all_bands;
-use predict_core::group::room::GroupRoom;
-use predict_core::handed::HandedRows;
-use predict_core::rows::Rows;
 use std::alloc::Global;
 use std::marker::Model;
 
-/// An encoder that is handed an image row by row, in an interleaved order.
+/// An encoder that is handed the rows of an image, one after another: of all bands at once in an interleaved order, and of one band
+/// after another in band-sequential order.
 ///
-/// It keeps the row above, the state of each band's predictor and coder, and the bytes of the file so far: no other sample.
+/// It keeps the rows, or the planes, that the prediction of the next ones reads, and the bytes of the file so far.
 #[derive(Drop)]
 pub struct RowEncoder {
-    y: u32,
-    above: Vec<u16>,
-    bands: Vec<Band>,
-    group: GroupRoom,
-    room: [u16; ROOM],
-    end: FileEncoder,
-    handed: HandedRows,
+    walk: Walk,
+}
+
+/// How the rows come.
+#[derive(Drop)]
+enum Walk {
+    Lines(LineEncoder),
+    Planes(PlaneEncoder),
 }
 
 impl Model for RowEncoder {
-    ghost use Rattle.file_encoding.specs.ByRows.{RowEncoderState};
+    ghost use Rattle.file_encoding.specs.ByRows.{RowEncoderState, rows_handed, rows_walked};
 
     ghost Value = { RowEncoderState };
 
-    ghost view = { λ e. record { y = e.y; offsets = e.handed.offsets; above = e.above.items; bands = e.bands.items; end = e.end } };
+    ghost view = { λ e. record { y = rows_walked e.walk; offsets = rows_handed e.walk; walk = e.walk } };
 }
 
 impl RowEncoder {
-    /// Returns the encoder of an image with lawful parameters, in an interleaved order. It has been handed no row.
+    /// Returns the encoder of an image with lawful parameters. It has been handed no row.
     ///
-    /// Returns `WantOfMemory` if the header, the row above, or the state of the predictors or of the coder can't be allocated.
+    /// Returns `WantOfMemory` if the header, what is kept, or the state of the predictors or of the coder can't be allocated.
     pub fn new(alloc: Global, params: &Params) -> Result<RowEncoder, Fault>
-        requires lawful { IsLawful params.now }
-        requires order { IsInterleaved params.now.order }
+        requires { IsLawful params.now }
         ensures under_way { IfOk result (λ e. IsUnderWay params.now e) }
         ensures none { IfOk result (λ e. (e.y ≡ 0) × (e.offsets ≡ [])) }
         ensures refused { IfErr result (λ e. e ≡ WantOfMemory) }
     {
-        let shape = params.shape;
-        let bands = all_bands(alloc, params)?;
-        let end = FileEncoder::new(alloc, params)?;
-        let size = shape.bands() as usize * shape.columns() as usize;
-        let above = vec![in alloc; 0u16; size]?;
-        Ok(RowEncoder {
-            y: 0,
-            above,
-            bands,
-            group: GroupRoom::new(),
-            room: [0; ROOM],
-            end,
-            handed: HandedRows::none(),
-        })
+        match params.order {
+            Order::Bsq => Ok(RowEncoder {
+                walk: Walk::Planes(PlaneEncoder::new(alloc, params)?),
+            }),
+            Order::Bi(_) => Ok(RowEncoder {
+                walk: Walk::Lines(LineEncoder::new(alloc, params)?),
+            }),
+        }
     }
 
-    /// Takes the next row of all bands: band after band, each sample as its offset from the least sample of the kind, at most
-    /// 2^D - 1 (CCSDS 123.0-B-1, "Image"). The parameters are those that the encoder was made for.
+    /// Takes the next row: of all bands, band after band, in an interleaved order; of one band, in band-sequential order, where that
+    /// band's rows come before those of the next. Each sample is its offset from the least sample of the kind, at most 2^D - 1
+    /// (CCSDS 123.0-B-1, "Image"). The parameters are those that the encoder was made for.
     ///
     /// Returns `WantOfMemory` if an allocation fails; then the encoder may not be used any more.
     pub fn row(&mut self, params: &Params, samples: &[u16]) -> Result<(), Fault>
         requires under_way { IsUnderWay params.now self.old }
-        requires more { self.old.y < params.now.shape.rows }
-        requires size { length samples.now ≡ row_size params.now.shape }
+        requires more { self.old.y < (rows_of_order params.now.order params.now.shape).rows }
+        requires size { length samples.now ≡ row_size (rows_of_order params.now.order params.now.shape) }
         requires range { AllByRecursion (λ v. v < 2 ^ params.now.kind.bits) samples.now }
         ensures under_way { OnOk result (IsUnderWay params.now self.new) }
         ensures handed { OnOk result ((self.new.offsets ≡ self.old.offsets ++ samples.now) × (self.new.y ≡ self.old.y + 1)) }
         ensures refused { IfErr result (λ e. e ≡ WantOfMemory) }
     {
-        let Order::Bi(depth) = params.order else {
-            unreachable!()
-        };
-        self.handed = self.handed.and(samples);
-        // The first row, which has none above it, is its own.
-        if self.y == 0 {
-            self.above.copy_from_slice(samples);
+        match &mut self.walk {
+            Walk::Lines(encoder) => encoder.row(params, samples),
+            Walk::Planes(encoder) => encoder.row(params, samples),
         }
-        let rows = Rows::of_last(
-            params.shape,
-            params.kind,
-            self.y,
-            &samples[..],
-            &self.above[..],
-            &self.handed,
-        );
-        if !send_all_bands(
-            &rows,
-            params,
-            depth,
-            &mut self.bands,
-            &mut self.room,
-            &mut self.group,
-            &mut self.end,
-        ) {
-            return Err(Fault::WantOfMemory);
-        }
-        self.above.copy_from_slice(samples);
-        self.y += 1;
-        Ok(())
     }
 
     /// Returns the bytes of the file, once each row was handed over: those of every cube that has these rows.
@@ -125,45 +85,13 @@ impl RowEncoder {
     /// Returns `WantOfMemory` if they can't be allocated.
     pub fn finish(self) -> Result<Vec<u8>, Fault>
         requires whole { AreAllRows self }
-        ensures file { IfOk result (λ bytes. (p : Parameters) → IsUnderWay p self → self.y ≡ p.shape.rows → IsFileOfRows p self.offsets bytes.items) }
+        ensures file { IfOk result (λ bytes. (p : Parameters) → IsUnderWay p self → self.y ≡ (rows_of_order p.order p.shape).rows → IsFileOfRows p self.offsets bytes.items) }
         ensures refused { IfErr result (λ e. e ≡ WantOfMemory) }
     {
-        let RowEncoder {
-            y: _,
-            above: _,
-            bands: _,
-            group: _,
-            room: _,
-            end,
-            handed: _,
-        } = self;
-        end.finish()
-    }
-}
-
-/// Sends the residuals of all bands in a row, group after group of interleaved bands. Returns false if memory has run out.
-fn send_all_bands(
-    rows: &Rows,
-    params: &Params,
-    depth: u32,
-    bands: &mut [Band],
-    room: &mut [u16; ROOM],
-    group: &mut GroupRoom,
-    end: &mut FileEncoder,
-) -> bool
-    requires image { IsSeen params.now rows.now.image }
-    requires depth { (1 ≤ depth) × (depth ≤ 65536) }
-    requires row { rows.now.y < rows.now.image.shape.rows }
-    requires own { bands_of bands.old ≡ upto rows.now.image.shape.bands }
-    requires at { AreAt params.now rows.now.image (rows.now.y * rows.now.image.shape.columns) bands.old }
-    requires may { MayCodeAll end.old (line_of params.now rows.now.image 0 [] depth rows.now.y) }
-    ensures sent { IsTrue result → CodesAll end.old end.new (line_of params.now rows.now.image 0 [] depth rows.now.y) }
-    ensures at { IsTrue result → AreAt params.now rows.now.image ((rows.now.y + 1) * rows.now.image.shape.columns) bands.new }
-    ensures same { bands_of bands.new ≡ bands_of bands.old }
-{
-    if depth == 1 {
-        send_each_row(rows, params, bands, room, group, end)
-    } else {
-        send_line(rows, params, 0, &[], depth, bands, group, end)
+        let RowEncoder { walk } = self;
+        match walk {
+            Walk::Lines(encoder) => encoder.finish(),
+            Walk::Planes(encoder) => encoder.finish(),
+        }
     }
 }

@@ -1,1 +1,2 @@
 pub mod RowImages
+pub mod RowSizes

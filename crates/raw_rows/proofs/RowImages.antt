@@ -1,13 +1,10 @@
--- An image of which one more row has come in raw bytes that interleave the bands.
+-- An image of which one more row has come in raw bytes.
 use Rattle.std.proofs.Common.{◌≡◌, ◌+◌, ◌*◌, ◌-◌, ◌<◌, ◌≤◌, ℕ, suc, zero, ℤ, pos, List, ◌++◌, length, take, drop, get_or, Ok}
 use Rattle.std.proofs.Common.{refl, sym, ap, ◌∙◌, subst, arith, inl, inr, length-append, length-take}
 use Rattle.std.proofs.lemmas.Bool.{cases_lt}
 use Rattle.std.proofs.lemmas.Nat.{mul-le}
 use Rattle.cube_core.specs.declared.layout.Layout.{Layout}
-use Rattle.cube_core.specs.declared.layout.RawOrder.{RawOrder}
-use Rattle.cube_core.specs.declared.layout.RawOrder.TheVariants as raw
 use Rattle.cube_core.specs.declared.order.Order.{Order}
-use Rattle.cube_core.specs.declared.order.Order.TheVariants.{Bsq, Bi}
 use Rattle.cube_core.specs.declared.order.Place.{Place}
 use Rattle.cube_core.specs.Image.{Image, IsCube, IsPlace, sample_at}
 use Rattle.cube_core.specs.Kind.{SampleKind}
@@ -20,28 +17,8 @@ use Rattle.cube_core.proofs.PartBytes.{bytes_of_place, front_piece, piece_after,
 use Rattle.cube_core.proofs.RawBytes.{length-raw_bytes}
 use Rattle.cube_core.proofs.Raws.{bytes_there, lawful_order, place_of}
 use Rattle.cube_core.proofs.Written.{sample_there}
-use Rattle.raw_rows.specs.OneRow.{ComesByRows, one_row, samples_of_row}
-
--- ---- where a place stands
-
--- the place in a row of its own
-row_place : Place → Place
-row_place p = record { z = p.z; y = 0; x = p.x }
-
--- in an interleaved order places go by rows, and in each row as in a row of its own
-index_bi : (s : Sizes) (depth : ℕ) (p : Place) → place_index s (Bi depth) p ≡ p.y * samples_of_row s + place_index (one_row s) (Bi depth) (row_place p)
-unfolding place_index row_place
-index_bi s depth p = grind arith
-
-index_by_row : (l : Layout) (s : Sizes) (p : Place) → ComesByRows l.order
-    → place_index s (order_of l.order s) p ≡ p.y * samples_of_row s + place_index (one_row s) (order_of l.order (one_row s)) (row_place p)
-index_by_row l s p interleaved = by_order l.order interleaved
-  where
-    by_order : (o : RawOrder) → ComesByRows o
-        → place_index s (order_of o s) p ≡ p.y * samples_of_row s + place_index (one_row s) (order_of o (one_row s)) (row_place p)
-    by_order raw.Bsq none = absurd none
-    by_order raw.Bil some = index_bi s 1 p
-    by_order raw.Bip some = index_bi s s.bands p
+use Rattle.raw_rows.specs.OneRow.{band_in_row, one_row, row_number, rows_of_raw, samples_of_row}
+use Rattle.raw_rows.proofs.RowSizes.{count_by_row, index_by_row, place_in_row, row_place, same_count}
 
 -- ---- the sample and the bytes of a place
 
@@ -69,14 +46,18 @@ raw_long c s l shape layout some = length-raw_bytes c l layout (rw shape some) �
 
 -- ---- one more row
 
-module _ (s : Sizes) (k : SampleKind) (l : Layout) (c d r : Image) (y : ℕ) (before bytes : List ℕ) (layout : IsLayout l) (interleaved : ComesByRows l.order)
-    (some : 0 < sample_count s) (row : y < s.rows) (found : IsFound s k l before (y * samples_of_row s) (Ok c)) (cube : IsCube d) (shape : d.shape ≡ s)
-    (kind : d.kind ≡ k) (row_shape : r.shape ≡ one_row s) (row_kind : r.kind ≡ k) (row_raw : raw_bytes r l ≡ bytes)
-    (row_fits : HaveBytes r l (samples_of_row s)) (row_samples : AreSamples k l bytes (samples_of_row s))
-    (same : (z x y' : ℕ) → IsPlace s z y' x → y' < y → sample_at c z y' x ≡ sample_at d z y' x)
-    (there : (z x : ℕ) → IsPlace s z y x → sample_at d z y x ≡ sample_at r z 0 x) where
+module _ (s : Sizes) (k : SampleKind) (l : Layout) (c d r : Image) (y : ℕ) (before bytes : List ℕ) (layout : IsLayout l) (some : 0 < sample_count s)
+    (row : y < (rows_of_raw l.order s).rows) (found : IsFound s k l before (y * samples_of_row (rows_of_raw l.order s)) (Ok c)) (cube : IsCube d)
+    (shape : d.shape ≡ s) (kind : d.kind ≡ k) (row_shape : r.shape ≡ one_row (rows_of_raw l.order s)) (row_kind : r.kind ≡ k) (row_raw : raw_bytes r l ≡ bytes)
+    (row_fits : HaveBytes r l (samples_of_row (rows_of_raw l.order s))) (row_samples : AreSamples k l bytes (samples_of_row (rows_of_raw l.order s)))
+    (same : (z y' x : ℕ) → IsPlace s z y' x → row_number l.order s z y' < y → sample_at c z y' x ≡ sample_at d z y' x)
+    (there : (z y' x : ℕ) → IsPlace s z y' x → row_number l.order s z y' ≡ y → sample_at d z y' x ≡ sample_at r (band_in_row l.order z) 0 x) where
+  -- the sizes of a row
+  row_sizes : Sizes
+  row_sizes = one_row (rows_of_raw l.order s)
+
   size : ℕ
-  size = samples_of_row s
+  size = samples_of_row (rows_of_raw l.order s)
 
   start : ℕ
   start = y * size
@@ -84,17 +65,25 @@ module _ (s : Sizes) (k : SampleKind) (l : Layout) (c d r : Image) (y : ℕ) (be
   row_end : start + size ≤ sample_count s
   unfolding size start
   row_end =
-      let low : suc y * samples_of_row s ≤ s.rows * samples_of_row s = mul-le (suc y) (samples_of_row s) s.rows (samples_of_row s) row (omega arith) in
-      let next : suc y * samples_of_row s ≡ y * samples_of_row s + samples_of_row s = grind arith in
-      let all : sample_count s ≡ s.rows * samples_of_row s = grind arith in
-      omega (arith, low, next, all)
+      let lines : Sizes = rows_of_raw l.order s in
+      let low : suc y * samples_of_row lines ≤ lines.rows * samples_of_row lines =
+      mul-le (suc y) (samples_of_row lines) lines.rows (samples_of_row lines) row (omega arith) in
+      let next : suc y * samples_of_row lines ≡ y * samples_of_row lines + samples_of_row lines = grind arith in
+      omega (arith, low, next, count_by_row l.order s)
 
-  row_count : sample_count (one_row s) ≡ size
-  unfolding size
+  same_shape : r.shape ≡ row_sizes
+  unfolding row_sizes
+  same_shape = row_shape
+
+  row_count : sample_count row_sizes ≡ size
+  unfolding row_sizes size
   row_count = grind arith
 
-  row_some : 0 < sample_count (one_row s)
-  row_some = some_in_row s.bands s.rows s.columns some
+  row_some : 0 < sample_count row_sizes
+  unfolding row_sizes
+  row_some =
+      let lines : Sizes = rows_of_raw l.order s in
+      some_in_row lines.bands lines.rows lines.columns (rw same_count some)
 
   -- ---- the place that stands at an index
 
@@ -105,53 +94,56 @@ module _ (s : Sizes) (k : SampleKind) (l : Layout) (c d r : Image) (y : ℕ) (be
   unfolding order
   lawful = lawful_order l.order s some
 
-  row_order : IsOrder (one_row s) (order_of l.order (one_row s))
-  row_order = lawful_order l.order (one_row s) row_some
+  row_order : IsOrder row_sizes (order_of l.order row_sizes)
+  row_order = lawful_order l.order row_sizes row_some
 
-  -- where the place stands in its row
+  -- which row a place is in, and where it stands there
+  number : Place → ℕ
+  number p = row_number l.order s p.z p.y
+
   in_row : Place → ℕ
-  in_row p = place_index (one_row s) (order_of l.order (one_row s)) (row_place p)
+  in_row p = place_index row_sizes (order_of l.order row_sizes) (row_place l.order p)
 
   module _ (p : Place) (i : ℕ) (stands : StandsAt s order p i) where
-    row_there : StandsAt (one_row s) (order_of l.order (one_row s)) (row_place p) (in_row p)
-    unfolding in_row row_place
-    row_there = record { place = record { band = stands.place.band; row = omega arith; column = stands.place.column }; index = refl }
+    row_there : StandsAt row_sizes (order_of l.order row_sizes) (row_place l.order p) (in_row p)
+    unfolding row_sizes in_row
+    row_there = record { place = place_in_row l.order s p.z p.y p.x stands.place; index = refl }
 
     in_row_below : in_row p < size
     unfolding in_row
-    in_row_below = rw row_count at (place_index_below (one_row s) (order_of l.order (one_row s)) (row_place p) row_order row_there.place)
+    in_row_below = rw row_count at (place_index_below row_sizes (order_of l.order row_sizes) (row_place l.order p) row_order row_there.place)
 
-    index_is : i ≡ p.y * size + in_row p
-    unfolding in_row size order
-    index_is = sym stands.index ∙ index_by_row l s p interleaved
+    index_is : i ≡ number p * size + in_row p
+    unfolding in_row size order row_sizes number
+    index_is = sym stands.index ∙ index_by_row l.order s p
 
-    is_before : i < start → p.y < y
+    is_before : i < start → number p < y
     unfolding start
-    is_before lt = elim (cases_lt p.y y) [
+    is_before lt = elim (cases_lt (number p) y) [
       | inl early ↦ early
-      | inr late ↦ absurd (omega (arith, lt, index_is, mul-le y size p.y size late (omega arith)))
+      | inr late ↦ absurd (omega (arith, lt, index_is, mul-le y size (number p) size late (omega arith)))
     ]
 
-    is_here : start ≤ i → i < start + size → (p.y ≡ y) × (i - start ≡ in_row p)
+    is_here : start ≤ i → i < start + size → (number p ≡ y) × (i - start ≡ in_row p)
     unfolding start
     is_here ge lt =
-        let low : p.y ≤ y = elim (cases_lt y p.y) [
+        let low : number p ≤ y = elim (cases_lt y (number p)) [
           | inl late ↦
-              (let far : suc y * size ≤ p.y * size = mul-le (suc y) size p.y size late (omega arith) in
+              (let far : suc y * size ≤ number p * size = mul-le (suc y) size (number p) size late (omega arith) in
               let next : suc y * size ≡ y * size + size = grind arith in
               absurd (omega (arith, far, next, lt, index_is)))
           | inr early ↦ early
         ] in
-        let high : y ≤ p.y = elim (cases_lt p.y y) [
+        let high : y ≤ number p = elim (cases_lt (number p) y) [
           | inl early ↦
-              (let near : suc p.y * size ≤ y * size = mul-le (suc p.y) size y size early (omega arith) in
-              let next : suc p.y * size ≡ p.y * size + size = grind arith in
+              (let near : suc (number p) * size ≤ y * size = mul-le (suc (number p)) size y size early (omega arith) in
+              let next : suc (number p) * size ≡ number p * size + size = grind arith in
               absurd (omega (arith, near, next, ge, index_is, in_row_below)))
           | inr late ↦ late
         ] in
-        let same : p.y ≡ y = omega (arith, low, high) in
-        let line : p.y * size ≡ y * size = ap (λ (n : ℕ). n * size) same in
-        (same, omega (arith, line, index_is))
+        let same : number p ≡ y = omega (arith, low, high) in
+        let through : number p * size ≡ y * size = ap (λ (n : ℕ). n * size) same in
+        (same, omega (arith, through, index_is))
 
   -- ---- its bytes
 
@@ -164,11 +156,11 @@ module _ (s : Sizes) (k : SampleKind) (l : Layout) (c d r : Image) (y : ℕ) (be
   before_long = found.long
 
   bytes_long : length bytes ≡ size * l.bytes
-  bytes_long = sym (ap length row_raw) ∙ raw_long r (one_row s) l row_shape layout row_some ∙ ap (λ (n : ℕ). n * l.bytes) row_count
+  bytes_long = sym (ap length row_raw) ∙ raw_long r row_sizes l same_shape layout row_some ∙ ap (λ (n : ℕ). n * l.bytes) row_count
 
   bytes_before : (p : Place) (i : ℕ) → StandsAt s order p i → i < start
       → take l.bytes (drop (i * l.bytes) (before ++ bytes)) ≡ sample_bytes l (sample_at d p.z p.y p.x)
-  unfolding order
+  unfolding order number
   bytes_before p i stands lt =
       let (whole, shape_c, kind_c, raw_c, have, samples) = known in
       let fits = bytes_there l i start layout lt in
@@ -176,21 +168,20 @@ module _ (s : Sizes) (k : SampleKind) (l : Layout) (c d r : Image) (y : ℕ) (be
       ∙ ap (λ (xs : List ℕ). take l.bytes (drop (i * l.bytes) xs)) (sym raw_c)
       ∙ front_piece i l.bytes (start * l.bytes) (raw_bytes c l) fits
       ∙ bytes_of c s l p i shape_c layout some stands
-      ∙ ap (sample_bytes l) (same p.z p.x p.y stands.place (is_before p i stands lt))
+      ∙ ap (sample_bytes l) (same p.z p.y p.x stands.place (is_before p i stands lt))
 
   bytes_here : (p : Place) (i : ℕ) → StandsAt s order p i → start ≤ i → i < start + size
       → take l.bytes (drop (i * l.bytes) (before ++ bytes)) ≡ sample_bytes l (sample_at d p.z p.y p.x)
-  unfolding row_place
+  unfolding number
   bytes_here p i stands ge lt =
       let (row_is, rest) = is_here p i stands ge lt in
       let back : start + (i - start) ≡ i = omega (arith, ge) in
       let piece : take l.bytes (drop (i * l.bytes) (before ++ bytes)) ≡ take l.bytes (drop ((i - start) * l.bytes) bytes) =
       rw back at (piece_after start (i - start) l.bytes before bytes before_long) in
-      let place : IsPlace s p.z y p.x = rw row_is at stands.place in
-      let sample : sample_at d p.z p.y p.x ≡ sample_at r p.z 0 p.x = rw row_is (there p.z p.x place) in
+      let sample : sample_at d p.z p.y p.x ≡ sample_at r (band_in_row l.order p.z) 0 p.x = there p.z p.y p.x stands.place row_is in
       piece ∙ ap (λ (n : ℕ). take l.bytes (drop (n * l.bytes) bytes)) rest
       ∙ ap (λ (xs : List ℕ). take l.bytes (drop (in_row p * l.bytes) xs)) (sym row_raw)
-      ∙ bytes_of r (one_row s) l (row_place p) (in_row p) row_shape layout row_some (row_there p i stands)
+      ∙ bytes_of r row_sizes l (row_place l.order p) (in_row p) same_shape layout row_some (row_there p i stands)
       ∙ ap (sample_bytes l) (sym sample)
 
   raw_now : take ((start + size) * l.bytes) (raw_bytes d l) ≡ before ++ bytes
@@ -216,22 +207,21 @@ module _ (s : Sizes) (k : SampleKind) (l : Layout) (c d r : Image) (y : ℕ) (be
   -- ---- its sample fits
 
   before_fits : (p : Place) (i : ℕ) → StandsAt s order p i → i < start → HasBytes k l (sample_at d p.z p.y p.x)
-  unfolding order
+  unfolding order number
   before_fits p i stands lt =
       let (whole, shape_c, kind_c, raw_c, have, samples) = known in
       let old : get_or (samples_in c l) i (pos 0) ≡ sample_at c p.z p.y p.x = sample_of c s l p i shape_c lawful (omega (arith, lt, row_end)) stands in
-      subst (HasBytes k l) (same p.z p.x p.y stands.place (is_before p i stands lt)) (fits_from c k l i (sample_at c p.z p.y p.x) kind_c old (have i lt))
+      subst (HasBytes k l) (same p.z p.y p.x stands.place (is_before p i stands lt)) (fits_from c k l i (sample_at c p.z p.y p.x) kind_c old (have i lt))
 
   here_fits : (p : Place) (i : ℕ) → StandsAt s order p i → start ≤ i → i < start + size → HasBytes k l (sample_at d p.z p.y p.x)
-  unfolding order row_place size
+  unfolding order number size
   here_fits p i stands ge lt =
       let (row_is, rest) = is_here p i stands ge lt in
-      let place : IsPlace s p.z y p.x = rw row_is at stands.place in
-      let sample : sample_at d p.z p.y p.x ≡ sample_at r p.z 0 p.x = rw row_is (there p.z p.x place) in
-      let below : in_row p < sample_count (one_row s) = rw row_count (in_row_below p i stands) in
-      let new : get_or (samples_in r l) (in_row p) (pos 0) ≡ sample_at r p.z 0 p.x =
-      sample_of r (one_row s) l (row_place p) (in_row p) row_shape row_order below (row_there p i stands) in
-      subst (HasBytes k l) (sym sample) (fits_from r k l (in_row p) (sample_at r p.z 0 p.x) row_kind new (row_fits (in_row p) (in_row_below p i stands)))
+      let sample : sample_at d p.z p.y p.x ≡ sample_at r (band_in_row l.order p.z) 0 p.x = there p.z p.y p.x stands.place row_is in
+      let below : in_row p < sample_count row_sizes = rw row_count (in_row_below p i stands) in
+      let new : get_or (samples_in r l) (in_row p) (pos 0) ≡ sample_at r (band_in_row l.order p.z) 0 p.x =
+      sample_of r row_sizes l (row_place l.order p) (in_row p) same_shape row_order below (row_there p i stands) in
+      subst (HasBytes k l) (sym sample) (fits_from r k l (in_row p) (sample_at r (band_in_row l.order p.z) 0 p.x) row_kind new (row_fits (in_row p) (in_row_below p i stands)))
 
   fits_now : HaveBytes d l (start + size)
   unfolding order
@@ -245,7 +235,7 @@ module _ (s : Sizes) (k : SampleKind) (l : Layout) (c d r : Image) (y : ℕ) (be
         | inr late ↦ here_fits p i stands late lt
       ])
 
-  pub row_found : IsFound s k l (before ++ bytes) (y * samples_of_row s + samples_of_row s) (Ok d)
+  pub row_found : IsFound s k l (before ++ bytes) (y * samples_of_row (rows_of_raw l.order s) + samples_of_row (rows_of_raw l.order s)) (Ok d)
   unfolding start size
   row_found =
       let (whole, shape_c, kind_c, raw_c, have, samples) = known in

@@ -1,4 +1,4 @@
--- A row of all bands in raw bytes, as a cube of one row.
+-- A row in raw bytes, as a cube of one row: of all bands where the raw order interleaves these, of one band in band sequential order.
 use Rattle.std.specs.Prelude.{ℕ, ◌≡◌, ◌+◌, ◌*◌, ◌^◌, ◌<◌, List, slice_index}
 use Rattle.cube_core.specs.declared.layout.RawOrder.{RawOrder}
 use Rattle.cube_core.specs.declared.layout.RawOrder.TheVariants as raw
@@ -6,11 +6,23 @@ use Rattle.cube_core.specs.Shape.{Sizes}
 use Rattle.cube_core.specs.Image.{Image, sample_at}
 use Rattle.cube_core.specs.Kind.{sample_of}
 
--- raw bytes that come row after row, and in each row with all bands
-abbrev pub ComesByRows : RawOrder → Type 0
-ComesByRows raw.Bsq = ⊥
-ComesByRows raw.Bil = Unit {0}
-ComesByRows raw.Bip = Unit {0}
+-- the sizes of an image as raw bytes bring it, row after row: with all bands at once; or, band after band, as one band that has the rows of all
+abbrev pub rows_of_raw : RawOrder → Sizes → Sizes
+rows_of_raw raw.Bsq s = record { columns = s.columns; rows = s.bands * s.rows; bands = 1 }
+rows_of_raw raw.Bil s = s
+rows_of_raw raw.Bip s = s
+
+-- which of these rows has row y of band z
+abbrev pub row_number : RawOrder → Sizes → ℕ → ℕ → ℕ
+row_number raw.Bsq s z y = z * s.rows + y
+row_number raw.Bil s z y = y
+row_number raw.Bip s z y = y
+
+-- which band of that row is band z
+abbrev pub band_in_row : RawOrder → ℕ → ℕ
+band_in_row raw.Bsq z = 0
+band_in_row raw.Bil z = z
+band_in_row raw.Bip z = z
 
 -- the sizes of one row of all bands
 abbrev pub one_row : Sizes → Sizes

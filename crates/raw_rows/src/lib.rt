@@ -1,4 +1,4 @@
-//! A row of all bands in raw bytes that interleave these: its samples, and the image that has one row more.
+//! A row in raw bytes, of all bands or of one: its samples, and the image that has one row more.
 #![tactic(auto)]
 
 pub mod one_row;

@@ -1,40 +1,64 @@
-//! A row of all bands: from its raw bytes to its samples, band after band.
+//! A row in raw bytes: its samples, band after band. It has all bands where the raw order interleaves these, and one in band sequential order.
 
 ghost use Rattle.std.specs.Prelude.{◌≡◌, ◌+◌, ◌*◌, ◌<◌, ◌≤◌, ◌^◌, ℕ, length, slice_index, IfOk, IfErr};
 ghost use Rattle.cube_core.specs.Image.{IsCube};
 ghost use Rattle.cube_core.specs.Layout.{IsLayout, IsFirstBad, raw_bytes, HaveBytes};
 ghost use Rattle.cube_core.specs.Raw.{AreSamples};
 ghost use Rattle.cube_core.specs.Shape.{AreSizes, InRange};
-ghost use Rattle.raw_rows.specs.OneRow.{AreBandRows, one_row as row_of, samples_of_row};
+ghost use Rattle.raw_rows.specs.OneRow.{AreBandRows, one_row as row_of, rows_of_raw, samples_of_row};
 
 use cube_core::cube::Cube;
 use cube_core::fault::Fault;
-use cube_core::layout::Layout;
+use cube_core::layout::{Layout, RawOrder};
 use cube_core::shape::Shape;
 
-/// Returns the shape of one row of all bands.
-pub fn one_row(shape: Shape) -> Shape
-    ensures { result ≡ row_of shape }
+/// Returns the shape of one row, with all bands or, in band sequential order, one.
+pub fn one_row(layout: Layout, shape: Shape) -> Shape
+    ensures { result ≡ row_of (rows_of_raw layout.order shape) }
 {
-    let (columns, bands) = (shape.columns(), shape.bands());
+    let (columns, bands) = (shape.columns(), row_bands(layout, shape));
     match Shape::new(columns, 1, bands) {
         Ok(row) => row,
         Err(_) => unreachable!(),
     }
 }
 
-/// Returns the number of samples of a row of all bands.
-pub fn row_samples(shape: Shape) -> u64
-    ensures value { result ≡ samples_of_row shape }
+/// Returns the number of samples of a row.
+pub fn row_samples(layout: Layout, shape: Shape) -> u64
+    ensures value { result ≡ samples_of_row (rows_of_raw layout.order shape) }
     ensures range { InRange 1 (2 ^ 32) result }
     ensures sizes { AreSizes shape }
 {
     // Sizes are a part of what counts samples.
     let _count = shape.sample_count();
-    u64::from(shape.bands()) * u64::from(shape.columns())
+    u64::from(row_bands(layout, shape)) * u64::from(shape.columns())
 }
 
-/// Takes the samples of a row of all bands from its raw bytes: band after band, each as its offset from the least sample of the kind.
+/// Returns the number of rows: those of an image whose rows have all bands, and in band sequential order those of all bands.
+pub fn row_count(layout: Layout, shape: Shape) -> u64
+    ensures value { result ≡ (rows_of_raw layout.order shape).rows }
+    ensures range { InRange 1 (2 ^ 32) result }
+{
+    match layout.order {
+        RawOrder::Bsq => u64::from(shape.bands()) * u64::from(shape.rows()),
+        RawOrder::Bil => u64::from(shape.rows()),
+        RawOrder::Bip => u64::from(shape.rows()),
+    }
+}
+
+/// Returns the number of bands of a row.
+fn row_bands(layout: Layout, shape: Shape) -> u32
+    ensures value { result ≡ (rows_of_raw layout.order shape).bands }
+    ensures range { InRange 1 65536 result }
+{
+    match layout.order {
+        RawOrder::Bsq => 1,
+        RawOrder::Bil => shape.bands(),
+        RawOrder::Bip => shape.bands(),
+    }
+}
+
+/// Takes the samples of a row from its raw bytes: band after band, each as its offset from the least sample of the kind.
 /// The cube is of one row, and is the row that was read afterwards.
 ///
 /// Returns the index of the first sample that isn't of the kind.

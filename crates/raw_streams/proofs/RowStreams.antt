@@ -1,4 +1,4 @@
--- Rows of all bands that came.
+-- Rows that came.
 use Rattle.std.proofs.Common.{◌≡◌, ◌≢◌, ◌+◌, ◌*◌, ◌-◌, ◌<◌, ◌≤◌, ℕ, suc, List, [], ◌++◌, length, Option, Result, Ok, Err, IfErr, OnOk}
 use Rattle.std.proofs.Common.{refl, sym, ap, ◌∙◌, arith, inl, inr, length-append}
 use Rattle.std.proofs.lemmas.Nat.{mul-le}
@@ -15,8 +15,8 @@ use Rattle.cube_core.specs.Shape.{Sizes}
 use Rattle.cube_core.proofs.PartBytes.{bad_follows, bad_stays}
 use Rattle.command_devices.specs.Devices.{Gave, GaveWithin, IsFront}
 use Rattle.command_devices.proofs.Devices.{gave_more}
-use Rattle.raw_rows.specs.OneRow.{samples_of_row}
-use Rattle.raw_streams.specs.Rows.{GaveRows, IsCutOff, IsRestRefusal, IsRowRefusal, IsWrongRest, row_bytes}
+use Rattle.raw_rows.proofs.RowSizes.{count_by_row}
+use Rattle.raw_streams.specs.Rows.{GaveRows, IsCutOff, IsRestRefusal, IsRowRefusal, IsWrongRest, row_bytes, rows_in, samples_in_row}
 use Rattle.raw_streams.specs.Streams.{IsEndRefusal, IsPartRefusal, IsRawRefusal, length_in, most_read}
 use Rattle.raw_streams.proofs.Streams.{ended_front, full_front, gave_none, within_more}
 
@@ -25,22 +25,22 @@ on_ok_both (Ok u) P Q R p q both = both p q
 on_ok_both (Err e) P Q R p q both = tt
 
 -- all bytes are those of all rows
-pub all_rows : (s : Sizes) (l : Layout) → length_in s l ≡ s.rows * row_bytes s l
-all_rows s l = grind arith
+pub all_rows : (s : Sizes) (l : Layout) → length_in s l ≡ rows_in s l * row_bytes s l
+all_rows s l = ap (λ (n : ℕ). n * l.bytes) (count_by_row l.order s) ∙ grind arith
 
 -- the bytes of the rows before the y-th, and of those from there on
 rows_sum : (y done size : ℕ) → y ≤ done → y * size + (done - y) * size ≡ done * size
 rows_sum y done size inside = let whole : y + (done - y) ≡ done = omega (arith, inside) in rw (← whole) (grind arith)
 
 -- how many bytes come with one row more, and with a byte more
-pub room_for_row : (s : Sizes) (l : Layout) (y done n : ℕ) → y ≤ done → done < s.rows → n ≡ (done - y) * row_bytes s l
+pub room_for_row : (s : Sizes) (l : Layout) (y done n : ℕ) → y ≤ done → done < rows_in s l → n ≡ (done - y) * row_bytes s l
     → n + row_bytes s l ≤ most_read s l - y * row_bytes s l
 room_for_row s l y done n inside more long =
-    let low : suc done * row_bytes s l ≤ s.rows * row_bytes s l = mul-le (suc done) (row_bytes s l) s.rows (row_bytes s l) more (omega arith) in
+    let low : suc done * row_bytes s l ≤ rows_in s l * row_bytes s l = mul-le (suc done) (row_bytes s l) (rows_in s l) (row_bytes s l) more (omega arith) in
     let next : suc done * row_bytes s l ≡ done * row_bytes s l + row_bytes s l = grind arith in
     omega (arith, long, rows_sum y done (row_bytes s l) inside, low, next, all_rows s l)
 
-pub room_for_byte : (s : Sizes) (l : Layout) (y done n : ℕ) → y ≤ done → done ≡ s.rows → n ≡ (done - y) * row_bytes s l
+pub room_for_byte : (s : Sizes) (l : Layout) (y done n : ℕ) → y ≤ done → done ≡ rows_in s l → n ≡ (done - y) * row_bytes s l
     → n + 1 ≤ most_read s l - y * row_bytes s l
 room_for_byte s l y done n inside all long =
     let whole : done * row_bytes s l ≡ length_in s l = rw all (sym (all_rows s l)) in
@@ -48,7 +48,7 @@ room_for_byte s l y done n inside all long =
 
 -- a part that is a row isn't read as the row isn't
 pub row_cut_off : (s : Sizes) (l : Layout) (y : ℕ) (part : Part) (left now : Option (List ℕ)) (f0 f1 : ℕ) {U : Type 0} (r : Result U Fault)
-    → first_sample l s part ≡ y * samples_of_row s → part_samples l s part ≡ samples_of_row s → IfErr r (IsPartRefusal s l part left now f0 f1)
+    → first_sample l s part ≡ y * samples_in_row s l → part_samples l s part ≡ samples_in_row s l → IfErr r (IsPartRefusal s l part left now f0 f1)
     → IfErr r (IsCutOff s l y left now f0 f1)
 row_cut_off s l y part left now f0 f1 r first size refused = IfErr-weaker r _ (IsCutOff s l y left now f0 f1) each refused
   where
@@ -73,10 +73,10 @@ module _ (s : Sizes) (l : Layout) (y done : ℕ) (a b c : Option (List ℕ)) (by
   had more = omega (arith, length-append bytes more, long, rows_sum y done (row_bytes s l) inside)
 
   -- what cuts off a row cuts off the rest
-  pub rest_cut_off : (fault : Fault) → done < s.rows → IsCutOff s l done b c f1 f2 fault → IsRestRefusal s l y a c f0 f2 fault
+  pub rest_cut_off : (fault : Fault) → done < rows_in s l → IsCutOff s l done b c f1 f2 fault → IsRestRefusal s l y a c f0 f2 fault
   rest_cut_off fault more (inl (e, rose)) = inl (e, rw same at rose)
   rest_cut_off fault more (inr (bytes_now, came, end, short, worked, e)) =
-      let low : suc done * row_bytes s l ≤ s.rows * row_bytes s l = mul-le (suc done) (row_bytes s l) s.rows (row_bytes s l) more (omega arith) in
+      let low : suc done * row_bytes s l ≤ rows_in s l * row_bytes s l = mul-le (suc done) (row_bytes s l) (rows_in s l) (row_bytes s l) more (omega arith) in
       let next : suc done * row_bytes s l ≡ done * row_bytes s l + row_bytes s l = grind arith in
       inr (
         bytes ++ bytes_now,
@@ -86,7 +86,7 @@ module _ (s : Sizes) (l : Layout) (y done : ℕ) (a b c : Option (List ℕ)) (by
         e ∙ ap (λ (n : ℕ). RawLength (length_in s l) n) (sym (had bytes_now)),
       )
 
-  pub rest_too_long : (fault : Fault) → done ≡ s.rows → IsEndRefusal s l b c f1 f2 fault → IsRestRefusal s l y a c f0 f2 fault
+  pub rest_too_long : (fault : Fault) → done ≡ rows_in s l → IsEndRefusal s l b c f1 f2 fault → IsRestRefusal s l y a c f0 f2 fault
   rest_too_long fault all (inl (e, rose)) = inl (e, rw same at rose)
   rest_too_long fault all (inr (more, came, one, worked, e)) =
       let whole : done * row_bytes s l ≡ length_in s l = rw all (sym (all_rows s l)) in
@@ -106,7 +106,7 @@ pub rows_none : (y size : ℕ) → 0 ≡ (y - y) * size
 rows_none y size = let none : y - y ≡ 0 = omega arith in rw none (omega arith)
 
 -- what cuts off a row is why it isn't taken
-pub row_ends : (s : Sizes) (k : SampleKind) (l : Layout) (y : ℕ) (a b : Option (List ℕ)) (f0 f1 : ℕ) (fault : Fault) → y < s.rows
+pub row_ends : (s : Sizes) (k : SampleKind) (l : Layout) (y : ℕ) (a b : Option (List ℕ)) (f0 f1 : ℕ) (fault : Fault) → y < rows_in s l
     → IsCutOff s l y a b f0 f1 fault → IsRowRefusal s k l y a b f0 f1 fault
 row_ends s k l y a b f0 f1 fault more cut =
     inl (rest_cut_off s l y y a a b [] f0 f0 f1 (omega arith) (gave_none a) (rows_none y (row_bytes s l)) refl fault more cut)
@@ -130,11 +130,11 @@ module _ (s : Sizes) (l : Layout) (y : ℕ) (a b c : Option (List ℕ)) (bytes :
   )
 
   -- a sample of the row isn't of the kind, and the rest came
-  pub row_is_bad : (k : SampleKind) (i : ℕ) (fault : Fault) → y < s.rows → fault ≡ SampleRange (y * samples_of_row s + i) → IsFirstBad k l bytes i
+  pub row_is_bad : (k : SampleKind) (i : ℕ) (fault : Fault) → y < rows_in s l → fault ≡ SampleRange (y * samples_in_row s l + i) → IsFirstBad k l bytes i
       → GaveRows s l (y + 1) b c → f2 ≡ f1 → IsRowRefusal s k l y a c f0 f2 fault
   row_is_bad k i fault inside e first (more, came, rest, end) worked =
-      let next : s.rows - y ≡ suc (s.rows - (y + 1)) = omega (arith, inside) in
-      let line : suc (s.rows - (y + 1)) * row_bytes s l ≡ (s.rows - (y + 1)) * row_bytes s l + row_bytes s l = grind arith in
+      let next : rows_in s l - y ≡ suc (rows_in s l - (y + 1)) = omega (arith, inside) in
+      let line : suc (rows_in s l - (y + 1)) * row_bytes s l ≡ (rows_in s l - (y + 1)) * row_bytes s l + row_bytes s l = grind arith in
       let stays = bad_stays k l bytes more (SampleRange i) (i, refl, first) in
       let index : i ≡ stays.0 = same_index i stays.0 stays.1 in
       inr (
@@ -143,29 +143,29 @@ module _ (s : Sizes) (l : Layout) (y : ℕ) (a b c : Option (List ℕ)) (bytes :
         rw next (omega (arith, length-append bytes more, long, rest, line)),
         end,
         worked ∙ same,
-        (stays.0, e ∙ ap (λ (n : ℕ). SampleRange (y * samples_of_row s + n)) index, stays.2),
+        (stays.0, e ∙ ap (λ (n : ℕ). SampleRange (y * samples_in_row s l + n)) index, stays.2),
       )
     where
       same_index : (a b : ℕ) → SampleRange a ≡ SampleRange b → a ≡ b
       same_index a b h = cc
 
-  pub room_with_rest : y < s.rows → GaveWithin (λ _. most_read s l - (y + 1) * row_bytes s l) b c → GaveWithin (λ _. most_read s l - y * row_bytes s l) a c
+  pub room_with_rest : y < rows_in s l → GaveWithin (λ _. most_read s l - (y + 1) * row_bytes s l) b c → GaveWithin (λ _. most_read s l - y * row_bytes s l) a c
   room_with_rest inside within =
-      let low : suc y * row_bytes s l ≤ s.rows * row_bytes s l = mul-le (suc y) (row_bytes s l) s.rows (row_bytes s l) inside (omega arith) in
+      let low : suc y * row_bytes s l ≤ rows_in s l * row_bytes s l = mul-le (suc y) (row_bytes s l) (rows_in s l) (row_bytes s l) inside (omega arith) in
       let next : (y + 1) * row_bytes s l ≡ y * row_bytes s l + row_bytes s l = grind arith in
       let also : suc y * row_bytes s l ≡ y * row_bytes s l + row_bytes s l = grind arith in
       within_more a b c bytes (most_read s l - (y + 1) * row_bytes s l) (most_read s l - y * row_bytes s l) gave within
       (omega (arith, long, low, next, also, all_rows s l))
 
 -- the room that is left holds a row
-pub row_fits : (s : Sizes) (l : Layout) (y : ℕ) → y < s.rows → row_bytes s l ≤ most_read s l - y * row_bytes s l
+pub row_fits : (s : Sizes) (l : Layout) (y : ℕ) → y < rows_in s l → row_bytes s l ≤ most_read s l - y * row_bytes s l
 row_fits s l y inside = omega (arith, room_for_row s l y y 0 (omega arith) inside (rows_none y (row_bytes s l)))
 
 -- ---- a row of which a sample isn't of the kind
 
 -- why a row isn't taken is why there is no cube
 pub row_refused : (s : Sizes) (k : SampleKind) (l : Layout) (y : ℕ) (a b c : Option (List ℕ)) (bytes : List ℕ) (f0 f1 f2 : ℕ) (fault : Fault)
-    → y ≤ s.rows → Gave a b bytes → length bytes ≡ y * row_bytes s l → AreSamples k l bytes (y * samples_of_row s) → f1 ≡ f0
+    → y ≤ rows_in s l → Gave a b bytes → length bytes ≡ y * row_bytes s l → AreSamples k l bytes (y * samples_in_row s l) → f1 ≡ f0
     → IsRowRefusal s k l y b c f1 f2 fault → IsRawRefusal s k l a f0 f2 fault
 row_refused s k l y a b c bytes f0 f1 f2 fault inside gave long samples same (inl (inl (e, rose))) = inl (e, rw same at rose)
 row_refused s k l y a b c bytes f0 f1 f2 fault inside gave long samples same (inl (inr (more, came, wrong, worked, e))) =
@@ -189,13 +189,13 @@ row_refused s k l y a b c bytes f0 f1 f2 fault inside gave long samples same (in
     other (inl (end, short)) sum e = omega (arith, sum, short, e)
     other (inr over) sum e = omega (arith, sum, over, e)
 row_refused s k l y a b c bytes f0 f1 f2 fault inside gave long samples same (inr (more, came, rest, end, worked, (i, e, first))) =
-    let sum : y * row_bytes s l + (s.rows - y) * row_bytes s l ≡ length_in s l =
-    rows_sum y s.rows (row_bytes s l) inside ∙ sym (all_rows s l) in
+    let sum : y * row_bytes s l + (rows_in s l - y) * row_bytes s l ≡ length_in s l =
+    rows_sum y (rows_in s l) (row_bytes s l) inside ∙ sym (all_rows s l) in
     let all : length (bytes ++ more) ≡ length_in s l = omega (arith, length-append bytes more, long, rest, sum) in
-    let before : length bytes ≡ y * samples_of_row s * l.bytes = long ∙ grind arith in
+    let before : length bytes ≡ y * samples_in_row s l * l.bytes = long ∙ grind arith in
     inr (inr (
       bytes ++ more,
       ended_front a c (bytes ++ more) (most_read s l) (gave_more a b c bytes more gave came) end (omega (arith, all)),
       omega (arith, all),
-      inr (all, (y * samples_of_row s + i, e, bad_follows k l bytes more (y * samples_of_row s) i before samples first)),
+      inr (all, (y * samples_in_row s l + i, e, bad_follows k l bytes more (y * samples_in_row s l) i before samples first)),
     ))

@@ -1,23 +1,29 @@
--- Rows of all bands in a cube's raw bytes, and why one isn't read.
+-- Rows in a cube's raw bytes, of all bands or, in band sequential order, of one; and why one isn't read.
 use Rattle.std.specs.Prelude.{ℕ, ◌≡◌, ◌⊎◌, ◌+◌, ◌-◌, ◌*◌, ◌<◌, List, length, Option}
 use Rattle.cube_core.specs.declared.fault.Fault.{Fault}
 use Rattle.cube_core.specs.declared.fault.Fault.TheVariants.{RawLength, Read, SampleRange}
 use Rattle.cube_core.specs.declared.layout.Layout.{Layout}
-use Rattle.cube_core.specs.declared.layout.RawOrder.TheVariants as raw
 use Rattle.cube_core.specs.Kind.{SampleKind}
 use Rattle.cube_core.specs.Layout.{IsFirstBad}
 use Rattle.cube_core.specs.Shape.{Sizes}
 use Rattle.command_devices.specs.Devices.{Gave, IsEnd, Rose}
-use Rattle.raw_rows.specs.OneRow.{samples_of_row}
+use Rattle.raw_rows.specs.OneRow.{rows_of_raw, samples_of_row}
 use Rattle.raw_streams.specs.Streams.{length_in, most_read}
 
--- how many raw bytes a row of all bands has
+-- how many rows there are
+abbrev pub rows_in : Sizes → Layout → ℕ
+rows_in s l = (rows_of_raw l.order s).rows
+
+-- how many samples a row has, and how many raw bytes
+abbrev pub samples_in_row : Sizes → Layout → ℕ
+samples_in_row s l = samples_of_row (rows_of_raw l.order s)
+
 abbrev pub row_bytes : Sizes → Layout → ℕ
-row_bytes s l = samples_of_row s * l.bytes
+row_bytes s l = samples_in_row s l * l.bytes
 
 -- the source gave the raw bytes of all rows from the y-th on, and is at its end
 abbrev pub GaveRows : Sizes → Layout → ℕ → Option (List ℕ) → Option (List ℕ) → Type 0
-GaveRows s l y left now = (bytes : List ℕ) × Gave left now bytes × (length bytes ≡ (s.rows - y) * row_bytes s l) × IsEnd now
+GaveRows s l y left now = (bytes : List ℕ) × Gave left now bytes × (length bytes ≡ (rows_in s l - y) * row_bytes s l) × IsEnd now
 
 -- why row y isn't read: the source failed, or ended within it; the fault says how many bytes there were with those of the rows before
 abbrev pub IsCutOff : Sizes → Layout → ℕ → Option (List ℕ) → Option (List ℕ) → ℕ → ℕ → Fault → Type 0
@@ -41,5 +47,5 @@ IsRestRefusal s l y left now failures failures_now fault =
 abbrev pub IsRowRefusal : Sizes → SampleKind → Layout → ℕ → Option (List ℕ) → Option (List ℕ) → ℕ → ℕ → Fault → Type 0
 IsRowRefusal s k l y left now failures failures_now fault =
     IsRestRefusal s l y left now failures failures_now fault
-    ⊎ ((bytes : List ℕ) × Gave left now bytes × (length bytes ≡ (s.rows - y) * row_bytes s l) × IsEnd now × (failures_now ≡ failures)
-    × ((i : ℕ) × (fault ≡ SampleRange (y * samples_of_row s + i)) × IsFirstBad k l bytes i))
+    ⊎ ((bytes : List ℕ) × Gave left now bytes × (length bytes ≡ (rows_in s l - y) * row_bytes s l) × IsEnd now × (failures_now ≡ failures)
+    × ((i : ℕ) × (fault ≡ SampleRange (y * samples_in_row s l + i)) × IsFirstBad k l bytes i))

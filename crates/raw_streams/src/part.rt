@@ -3,11 +3,12 @@
 ghost use Rattle.std.specs.Prelude.{◌≡◌, ◌*◌, ◌<◌, ◌≤◌, ◌^◌};
 ghost use Rattle.cube_core.specs.Layout.{IsLayout};
 ghost use Rattle.cube_core.specs.Parts.{IsPart, first_sample, part_samples, unit_count, unit_of};
-ghost use Rattle.raw_rows.specs.OneRow.{ComesByRows, samples_of_row};
+ghost use Rattle.raw_streams.specs.Rows.{rows_in, samples_in_row};
 
 use cube_core::layout::{Layout, RawOrder};
 use cube_core::part::Part;
 use cube_core::shape::Shape;
+use raw_rows::one_row::row_count;
 
 /// The most bytes of a piece. No unit of raw samples has more.
 pub(crate) const PIECE: usize = 1 << 17;
@@ -37,30 +38,30 @@ pub(crate) fn length_of(layout: Layout, shape: Shape, part: Part) -> usize
     (part.count * layout.unit(shape)) as usize * layout.bytes as usize
 }
 
-/// Returns the part that row `y` of all bands is, where the layout interleaves them.
-pub(crate) fn row_part(layout: Layout, shape: Shape, y: u32) -> Part
-    requires interleaved { ComesByRows layout.order }
-    requires inside { y < shape.rows }
+/// Returns the part that row `y` is.
+pub(crate) fn row_part(layout: Layout, shape: Shape, y: u64) -> Part
+    requires inside { y < rows_in shape layout }
     ensures part { IsPart layout shape result }
-    ensures first { first_sample layout shape result ≡ y * samples_of_row shape }
-    ensures samples { part_samples layout shape result ≡ samples_of_row shape }
+    ensures first { first_sample layout shape result ≡ y * samples_in_row shape layout }
+    ensures samples { part_samples layout shape result ≡ samples_in_row shape layout }
 {
-    let units = row_units(layout, shape);
+    // There are at most 2^32 rows.
+    let _rows = row_count(layout, shape);
+    let units = u64::from(row_units(layout, shape));
     Part {
-        first: u64::from(y) * u64::from(units),
-        count: u64::from(units),
+        first: y * units,
+        count: units,
     }
 }
 
-/// Returns how many units a row of all bands is, where the layout interleaves them.
+/// Returns how many units a row is: a row of one band in band sequential order, else one of all bands.
 fn row_units(layout: Layout, shape: Shape) -> u32
-    requires { ComesByRows layout.order }
-    ensures row { result * unit_of layout.order shape ≡ samples_of_row shape }
-    ensures all { shape.rows * result ≡ unit_count layout.order shape }
+    ensures row { result * unit_of layout.order shape ≡ samples_in_row shape layout }
+    ensures all { rows_in shape layout * result ≡ unit_count layout.order shape }
     ensures range { result ≤ 65536 }
 {
     match layout.order {
-        RawOrder::Bsq => unreachable!(),
+        RawOrder::Bsq => shape.columns(),
         RawOrder::Bil => shape.bands(),
         RawOrder::Bip => shape.columns(),
     }

@@ -1,12 +1,9 @@
 //! Tests of scenes that are coded while they are read, a row of all bands at a time.
 
-ghost use Rattle.std.specs.Prelude.{◌<◌};
 ghost use Rattle.cube_core.specs.Layout.{IsLayout};
 
-use super::support::{ONE_BYTE, sink};
+use super::support::{ONE_BYTE, file_of};
 use crate::tests::checks::same;
-use ccsds_command::compress::run_compress;
-use command_devices::cut::CutSource;
 use command_words::settings::CompressSettings;
 use cube_core::fault::Fault;
 use cube_core::kind::Kind;
@@ -69,26 +66,6 @@ fn settings_of(rt: &impl Abort, order: RawOrder, depth: u32) -> CompressSettings
         predictors: 0,
         slots: 1024,
     }
-}
-
-/// Compresses raw bytes that come in pieces, with the call `fail_at` failing. A refusal leaves the sink empty.
-fn file_of(
-    rt: &impl Abort,
-    alloc: Global,
-    settings: &CompressSettings,
-    bytes: &[u8],
-    piece: usize,
-    fail_at: Option<u64>,
-) -> Result<Vec<u8>, Fault>
-    requires piece { 0 < piece }
-    requires layout { IsLayout settings.now.layout }
-{
-    let mut source = CutSource::new(bytes, piece, fail_at);
-    let mut sink = sink(rt, alloc, 1000, None);
-    let answer = run_compress(alloc, &mut source, &mut sink, settings);
-    assert!(rt; answer.is_ok() || sink.taken().is_empty());
-    answer?;
-    Ok(Vec::from_slice(alloc, sink.taken())?)
 }
 
 /// Asserts how the raw bytes are refused, in either layout.

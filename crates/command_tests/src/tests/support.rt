@@ -19,6 +19,9 @@ use std::process::Abort;
 /// The room of a sink, and the size of the pieces that are read and written.
 const ROOM: usize = 1000;
 
+/// The room of a sink for the files of the longest scenes here.
+const FILE_ROOM: usize = 4000;
+
 /// The layout of samples of one byte, band after band.
 pub(crate) const ONE_BYTE: Layout = Layout {
     order: RawOrder::Bsq,
@@ -85,6 +88,26 @@ pub(crate) fn compressed(
     let mut source = CutSource::new(raw, ROOM, None);
     let mut sink = CutSink::new(alloc, ROOM, ROOM, None)?;
     run_compress(alloc, &mut source, &mut sink, settings)?;
+    Ok(Vec::from_slice(alloc, sink.taken())?)
+}
+
+/// Compresses raw bytes that come in pieces, with the call `fail_at` failing. A refusal leaves the sink empty.
+pub(crate) fn file_of(
+    rt: &impl Abort,
+    alloc: Global,
+    settings: &CompressSettings,
+    bytes: &[u8],
+    piece: usize,
+    fail_at: Option<u64>,
+) -> Result<Vec<u8>, Fault>
+    requires piece { 0 < piece }
+    requires layout { IsLayout settings.now.layout }
+{
+    let mut source = CutSource::new(bytes, piece, fail_at);
+    let mut sink = CutSink::new(alloc, FILE_ROOM, ROOM, None)?;
+    let answer = run_compress(alloc, &mut source, &mut sink, settings);
+    assert!(rt; answer.is_ok() || sink.taken().is_empty());
+    answer?;
     Ok(Vec::from_slice(alloc, sink.taken())?)
 }
 

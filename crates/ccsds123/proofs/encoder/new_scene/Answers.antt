@@ -1,17 +1,14 @@
 use Rattle.std.proofs.Common.{sym, subst}
 use Rattle.cube_core.specs.declared.layout.Layout.{Layout}
 use Rattle.header_bits.specs.declared.params.Params.{Params}
-use Rattle.file_encoding.specs.ByRows.{IsInterleaved}
-use Rattle.ccsds123.specs.Asked.{AsksParams}
-use Rattle.raw_rows.specs.OneRow.{ComesByRows}
-use Rattle.ccsds123.proofs.Interleaved.{interleaves}
+use Rattle.raw_rows.specs.Together.{GoTogether}
+use Rattle.ccsds123.specs.Asked.{AsksParams, order_by}
+use Rattle.ccsds123.proofs.Together.{goes_together}
 use Rattle.ccsds123.proofs.encoder.new_scene.Goals as goal
 
-pub new-requires-clause-order : goal.new-requires-clause-order
+pub new-requires-clause-together : goal.new-requires-clause-together
 unfolding AsksParams
-new-requires-clause-order c = subst (λ (p : Params). IsInterleaved p.order) (sym c.in_ok-asked.ensures.2)
-    (interleaves c.args.params.now c.args.layout.now (sym c.in_ok-test_interleaved.ensures)).0
-
-pub new-requires-clause-rows : goal.new-requires-clause-rows
-new-requires-clause-rows c = subst (λ (l : Layout). ComesByRows l.order) (sym c.in_ok-laid.ensures.layout.2)
-    (interleaves c.args.params.now c.args.layout.now (sym c.in_ok-test_interleaved.ensures)).1
+new-requires-clause-together c =
+    subst (λ (p : Params). GoTogether c.in_ok-laid.laid.order p.order) (sym c.in_ok-asked.ensures.2)
+    (subst (λ (l : Layout). GoTogether l.order (order_by c.args.params.now.order c.args.params.now.depth)) (sym c.in_ok-laid.ensures.layout.2)
+    (goes_together c.args.params.now c.args.layout.now (sym c.in_ok-test_together.ensures)))

@@ -1,7 +1,7 @@
 use Rattle.std.proofs.Common.{◌≡◌, ◌+◌, ◌*◌, ◌<◌, ◌≤◌, ℕ, suc, arith, ap, ◌∙◌}
 use Rattle.std.proofs.lemmas.Nat.{mul-le}
 use Rattle.cube_core.specs.Parts.{unit_count, unit_of}
-use Rattle.raw_rows.specs.OneRow.{samples_of_row}
+use Rattle.raw_streams.specs.Rows.{rows_in, samples_in_row}
 use Rattle.raw_streams.proofs.part.row_part.Goals as goal
 
 -- row y is one of so many rows of as many units
@@ -15,9 +15,9 @@ row_first : (y units unit size : ℕ) → units * unit ≡ size → y * units * 
 row_first y units unit size row = let same : y * units * unit ≡ y * (units * unit) = grind arith in same ∙ ap (λ (n : ℕ). y * n) row
 
 pub returns-clause-part : goal.returns-clause-part
-returns-clause-part c = rw (c.from.ensures, c.from-2.ensures, c.from-3.ensures) (row_is_part c.args.y c.args.shape.rows c.row_units-units.result
-    (unit_count c.args.layout.order c.args.shape) c.requires.inside c.row_units-units.ensures.all)
+returns-clause-part c = rw c.from-units.ensures (row_is_part c.args.y (rows_in c.args.shape c.args.layout) c.row_units.result
+    (unit_count c.args.layout.order c.args.shape) c.requires.inside c.row_units.ensures.all)
 
 pub returns-clause-first : goal.returns-clause-first
-returns-clause-first c = rw (c.from.ensures, c.from-2.ensures) (row_first c.args.y c.row_units-units.result (unit_of c.args.layout.order c.args.shape)
-    (samples_of_row c.args.shape) c.row_units-units.ensures.row)
+returns-clause-first c = rw c.from-units.ensures (row_first c.args.y c.row_units.result (unit_of c.args.layout.order c.args.shape)
+    (samples_in_row c.args.shape c.args.layout) c.row_units.ensures.row)

@@ -1,7 +1,9 @@
-use Rattle.std.proofs.Common.{◌≡◌, ◌+◌, ◌-◌, ◌*◌, ◌≤◌, ℕ, suc, [], ◌++◌, length, refl, arith, ◌∙◌, length-append}
+use Rattle.std.proofs.Common.{◌≡◌, ◌+◌, ◌-◌, ◌*◌, ◌≤◌, ℕ, suc, [], ◌++◌, length, refl, arith, ◌∙◌, inl, inr, length-append}
 use Rattle.std.proofs.lemmas.Result.{err_from_is_err_and, IfErr-weaker}
+use Rattle.cube_core.specs.declared.layout.Layout.{Layout}
+use Rattle.cube_core.specs.Layout.{IsLayout}
 use Rattle.command_devices.proofs.Devices.{gave_more}
-use Rattle.raw_streams.specs.Rows.{GaveRows, IsRestRefusal, row_bytes}
+use Rattle.raw_streams.specs.Rows.{GaveRows, IsRestRefusal, row_bytes, rows_in, samples_in_row}
 use Rattle.raw_streams.proofs.Streams.{all_came, gave_none, within_more}
 use Rattle.raw_streams.proofs.RowStreams.{on_ok_both, rows_none, rest_cut_off, rest_too_long, room_for_row, room_for_byte}
 use Rattle.raw_streams.proofs.rows.read_rest.Goals as goal
@@ -12,10 +14,17 @@ rows_more y done size long more inside e f =
     let next : done + 1 - y ≡ suc (done - y) = omega (arith, inside) in
     rw (next, e, f) (grind arith)
 
+-- a row has a byte
+some_bytes : (n : ℕ) (l : Layout) → IsLayout l → 1 ≤ n → 1 ≤ n * l.bytes
+some_bytes n l (inl e) some = rw e (omega (arith, some))
+some_bytes n l (inr e) some = rw e (omega (arith, some))
+
 pub loop-done-init : goal.loop-done-init
 loop-done-init g c = record {
-  within = (omega arith, omega (arith, c.requires.inside, c.rows-rows.ensures.value));
+  within = (omega arith, omega (arith, c.requires.inside, c.row_count-rows.ensures.value));
   long = c.requires.room;
+  some = some_bytes (samples_in_row c.args.shape c.args.layout) c.args.layout c.requires.layout
+      (rw c.row_samples-size.ensures.value at c.row_samples-size.ensures.range.0);
   worked = refl;
   come = ([], gave_none (g.S.Source.left c.args.source.now), rows_none c.args.y (row_bytes c.args.shape c.args.layout));
 }
@@ -25,13 +34,13 @@ returns-in_err-read_row_bytes-clause-refused g c =
     let p = err_from_is_err_and c.from_residual.result c.from_residual.ensures.1 in
     let come = c.loop-done.invariant.come in
     rw (p.1, p.2) (rest_cut_off c.args.shape c.args.layout c.args.y c.loop-done.done _ _ _ come.0 _ _ _ c.loop-done.invariant.within.0 come.1 come.2
-    c.loop-done.invariant.worked _ (omega (arith, c.loop-done-test.true, c.rows-rows.ensures.value)) c.in_err-read_row_bytes.ensures.refused)
+    c.loop-done.invariant.worked _ (omega (arith, c.loop-done-test.true, c.row_count-rows.ensures.value)) c.in_err-read_row_bytes.ensures.refused)
 
 pub returns-in_err-read_row_bytes-clause-bounded : goal.returns-in_err-read_row_bytes-clause-bounded
 returns-in_err-read_row_bytes-clause-bounded g c =
     let come = c.loop-done.invariant.come in
     within_more _ _ _ come.0 _ _ come.1 c.in_err-read_row_bytes.ensures.bounded (room_for_row c.args.shape c.args.layout c.args.y c.loop-done.done _
-    c.loop-done.invariant.within.0 (omega (arith, c.loop-done-test.true, c.rows-rows.ensures.value)) come.2)
+    c.loop-done.invariant.within.0 (omega (arith, c.loop-done-test.true, c.row_count-rows.ensures.value)) come.2)
 
 pub loop-done-preserved : goal.loop-done-preserved
 loop-done-preserved g c =
@@ -41,6 +50,7 @@ loop-done-preserved g c =
     record {
       within = (omega (arith, c.loop-done.invariant.within.0), omega (arith, c.loop-done-test.true));
       long = long;
+      some = c.loop-done.invariant.some;
       worked = c.in_ok-read_row_bytes.ensures.worked ∙ c.loop-done.invariant.worked;
       come = (
         come.0 ++ c.read_row_bytes.new.bytes,
@@ -53,14 +63,16 @@ loop-done-preserved g c =
 pub returns-clause-given : goal.returns-clause-given
 returns-clause-given g c =
     let come = c.loop-done.invariant.come in
-    let all : c.loop-done.done ≡ c.args.shape.rows = omega (arith, c.loop-done.invariant.within.1, c.loop-done-test.false, c.rows-rows.ensures.value) in
+    let all : c.loop-done.done ≡ rows_in c.args.shape c.args.layout =
+    omega (arith, c.loop-done.invariant.within.1, c.loop-done-test.false, c.row_count-rows.ensures.value) in
     on_ok_both c.read_end.result _ _ (GaveRows c.args.shape c.args.layout c.args.y (g.S.Source.left c.args.source.now) (g.S.Source.left c.read_end.new.source))
     c.read_end.ensures.given c.read_end.ensures.ended (λ gave end. (come.0, all_came _ _ _ come.0 come.1 gave, rw all at come.2, end))
 
 pub returns-clause-refused : goal.returns-clause-refused
 returns-clause-refused g c =
     let come = c.loop-done.invariant.come in
-    let all : c.loop-done.done ≡ c.args.shape.rows = omega (arith, c.loop-done.invariant.within.1, c.loop-done-test.false, c.rows-rows.ensures.value) in
+    let all : c.loop-done.done ≡ rows_in c.args.shape c.args.layout =
+    omega (arith, c.loop-done.invariant.within.1, c.loop-done-test.false, c.row_count-rows.ensures.value) in
     IfErr-weaker c.read_end.result _ (IsRestRefusal c.args.shape c.args.layout c.args.y (g.S.Source.left c.args.source.now)
     (g.S.Source.left c.read_end.new.source) (g.S.Source.failures c.args.source.now) (g.S.Source.failures c.read_end.new.source))
     (λ e h. rest_too_long c.args.shape c.args.layout c.args.y c.loop-done.done _ _ _ come.0 _ _ _ c.loop-done.invariant.within.0 come.1 come.2
@@ -69,6 +81,7 @@ returns-clause-refused g c =
 pub returns-clause-bounded : goal.returns-clause-bounded
 returns-clause-bounded g c =
     let come = c.loop-done.invariant.come in
-    let all : c.loop-done.done ≡ c.args.shape.rows = omega (arith, c.loop-done.invariant.within.1, c.loop-done-test.false, c.rows-rows.ensures.value) in
+    let all : c.loop-done.done ≡ rows_in c.args.shape c.args.layout =
+    omega (arith, c.loop-done.invariant.within.1, c.loop-done-test.false, c.row_count-rows.ensures.value) in
     within_more _ _ _ come.0 1 _ come.1 c.read_end.ensures.bounded (room_for_byte c.args.shape c.args.layout c.args.y c.loop-done.done _
     c.loop-done.invariant.within.0 all come.2)

@@ -7,6 +7,7 @@ abbrev pub invariant-loop-done : goal.invariant-loop-done
 invariant-loop-done g l = record {
   within : (l.y ≤ l.done) × (l.done ≤ l.rows);
   long : length l.bytes ≡ row_bytes l.shape l.layout;
+  some : 1 ≤ row_bytes l.shape l.layout;
   worked : g.S.Source.failures l.source ≡ g.S.Source.failures l.fn.source;
   come : (bytes : List ℕ) × Gave (g.S.Source.left l.fn.source) (g.S.Source.left l.source) bytes × (length bytes ≡ (l.done - l.y) * row_bytes l.shape l.layout);
 }

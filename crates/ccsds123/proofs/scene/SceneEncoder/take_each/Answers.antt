@@ -8,7 +8,7 @@ pub take_row-requires-clause-more : goal.take_row-requires-clause-more
 take_row-requires-clause-more c =
     let size : length c.args.samples.now * c.args.self.now.layout.bytes ≡ row_bytes c.args.self.now.params c.args.self.now.layout =
     ap (λ (n : ℕ). n * c.args.self.now.layout.bytes) c.requires.samples in
-    rw (c.loop-i.invariant.rows, ap (λ (x : Scene). x.params) c.loop-i.invariant.taken)
+    rw (c.loop-i.invariant.rows, ap (λ (x : Scene). x.params) c.loop-i.invariant.taken, ap (λ (x : Scene). x.layout) c.loop-i.invariant.taken)
     (still_more c.args.self.now c.args.raw.now c.loop-i.i _ c.requires.open c.requires.more size c.loop-i-test.true)
 
 pub returns-in_err-row-clause-refused : goal.returns-in_err-row-clause-refused
@@ -21,11 +21,12 @@ pub loop-i-preserved : goal.loop-i-preserved
 loop-i-preserved c =
     let done = c.in_ok-row.ensures in
     let same = ap (λ (x : Scene). x.params) c.loop-i.invariant.taken in
+    let laid = ap (λ (x : Scene). x.layout) c.loop-i.invariant.taken in
     record {
       open' = done.open;
       taken = scene_taken (scene_of c.args.self.now) (scene_of c.loop-i.self) _ c.loop-i.i _ c.args.raw.now c.loop-i.invariant.taken done.taken.0;
       rows = omega (arith, done.taken.1, c.loop-i.invariant.rows);
-      row = (rw same at done.row.0, rw same at done.row.1);
+      row = (rw (same, laid) at done.row.0, rw same at done.row.1);
       long = done.long ∙ c.loop-i.invariant.long;
     }
 

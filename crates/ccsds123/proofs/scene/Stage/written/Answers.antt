@@ -1,4 +1,4 @@
-use Rattle.ccsds123.proofs.SceneRows.{file_written}
+use Rattle.ccsds123.proofs.NextRow.{file_written}
 use Rattle.ccsds123.proofs.scene.Stage.written.Goals as goal
 
 pub returns-in_ok-finish-in-Rows-clause-written : goal.returns-in_ok-finish-in-Rows-clause-written

@@ -25,10 +25,10 @@ use Rattle.file_format.specs.File.{file_of, file_of_residuals}
 use Rattle.file_encoding.specs.Ends.{FileEncoderState, CodesAll, HasCoded, MayCodeAll}
 use Rattle.file_encoding.specs.Own.{line_of, own_residuals}
 use Rattle.file_encoding.specs.Walks.{AreAt, IsSeen, bands_of}
-use Rattle.file_encoding.specs.ByRows.{IsFileOfRows, IsInterleaved, IsUnderWay, RowEncoderState, image_so_far, lines_of}
+use Rattle.file_encoding.specs.ByLines.{IsFileOfLines, IsInterleaved, AreLinesUnderWay, LineEncoderState, image_by_lines, lines_of}
 use Rattle.file_encoding.proofs.Sending.{Pieces, at_same, upto_rest}
 use Rattle.file_encoding.proofs.Encoding.{all_fresh, all_residuals, length-all, none_left, own_all}
-use Rattle.file_encoding.proofs.ByRows.{HaveSameRows, are_at_same, image_more, lines_there, whole_image}
+use Rattle.file_encoding.proofs.ByLines.{HaveSameRows, are_at_same, image_more, lines_there, whole_image}
 
 -- ---- before the first row
 
@@ -36,11 +36,11 @@ depth_of : (order : Order) → IsInterleaved order → (depth : ℕ) × (order �
 depth_of Bsq none = absurd none
 depth_of (Bi depth) some = (depth, refl)
 
-pub start_under : (p : Params) (e : RowEncoderState) → IsLawful p → IsInterleaved p.order → e.y ≡ 0 → e.offsets ≡ [] → length e.above ≡ row_size p.shape
+pub start_under : (p : Params) (e : LineEncoderState) → IsLawful p → IsInterleaved p.order → e.y ≡ 0 → e.offsets ≡ [] → length e.above ≡ row_size p.shape
     → length e.bands ≡ p.shape.bands → ((c : Image) → AreAlong p c 0 e.bands) → ((z : ℕ) (b : PredictorState) → slice_get e.bands z ≡ Some b → b.t ≡ 0)
-    → HasCoded p e.end [] → IsUnderWay p e
+    → HasCoded p e.end [] → AreLinesUnderWay p e
 start_under p e lawful interleaved y_is none room many along first coded =
-    let fresh = all_fresh p (image_so_far p e.offsets) e.bands many (along (image_so_far p e.offsets)) first in
+    let fresh = all_fresh p (image_by_lines p e.offsets) e.bands many (along (image_by_lines p e.offsets)) first in
     let order = depth_of p.order interleaved in
     record {
       depth = order.0;
@@ -52,19 +52,19 @@ start_under p e lawful interleaved y_is none room many along first coded =
       room = room;
       above = λ some. absurd (omega (arith, y_is, some));
       own = fresh.own ∙ own_all (upto p.shape.bands);
-      at = at_same p (image_so_far p e.offsets) 0 (e.y * p.shape.columns) e.bands fresh.at (let zero : 0 * p.shape.columns ≡ 0 = grind arith in rw y_is (sym zero));
+      at = at_same p (image_by_lines p e.offsets) 0 (e.y * p.shape.columns) e.bands fresh.at (let zero : 0 * p.shape.columns ≡ 0 = grind arith in rw y_is (sym zero));
       coded = rw y_is coded;
     }
 
 -- ---- one row more
 
-module _ (p : Params) (e : RowEncoderState) (samples : List ℕ) (under : IsUnderWay p e) (more : e.y < p.shape.rows) (size : length samples ≡ row_size p.shape)
+module _ (p : Params) (e : LineEncoderState) (samples : List ℕ) (under : AreLinesUnderWay p e) (more : e.y < p.shape.rows) (size : length samples ≡ row_size p.shape)
     (range : AllByRecursion (λ v. v < 2 ^ p.kind.bits) samples) where
   abbrev all : List ℕ
   all = e.offsets ++ samples
 
   abbrev image : Image
-  image = image_so_far p all
+  image = image_by_lines p all
 
   -- ---- the image of the rows
 
@@ -115,19 +115,19 @@ module _ (p : Params) (e : RowEncoderState) (samples : List ℕ) (under : IsUnde
 
   -- ---- the predictors
 
-  same : HaveSameRows (image_so_far p e.offsets) image e.y
+  same : HaveSameRows (image_by_lines p e.offsets) image e.y
   same = image_more p.shape p.kind e.offsets samples e.y under.size
 
   pub at_now : AreAt p image (e.y * p.shape.columns) e.bands
   unfolding image_of_rows
-  at_now = are_at_same (image_so_far p e.offsets) image e.y same p under.lawful refl (omega (arith, more)) e.bands under.at
+  at_now = are_at_same (image_by_lines p e.offsets) image e.y same p under.lawful refl (omega (arith, more)) e.bands under.at
 
   -- ---- the residuals
 
   coded_now : HasCoded p e.end (lines_of p image under.depth e.y)
   unfolding image_of_rows
   coded_now =
-      subst (HasCoded p e.end) (lines_there (image_so_far p e.offsets) image e.y same p under.lawful refl (omega (arith, more)) under.depth) under.coded
+      subst (HasCoded p e.end) (lines_there (image_by_lines p e.offsets) image e.y same p under.lawful refl (omega (arith, more)) under.depth) under.coded
 
   whole : residuals p image ≡ lines_of p image under.depth p.shape.rows
   unfolding image_of_rows
@@ -186,9 +186,9 @@ module _ (p : Params) (e : RowEncoderState) (samples : List ℕ) (under : IsUnde
         rw (is, same, depth_is) may_code
 
     -- the state after it
-    pub next_under : (was : FileEncoderState) (depth : ℕ) (new : RowEncoderState) → was ≡ e.end → p.order ≡ Bi depth → new.y ≡ e.y + 1 → new.offsets ≡ all
+    pub next_under : (was : FileEncoderState) (depth : ℕ) (new : LineEncoderState) → was ≡ e.end → p.order ≡ Bi depth → new.y ≡ e.y + 1 → new.offsets ≡ all
         → new.above ≡ samples → bands_of new.bands ≡ bands_of e.bands → AreAt p rows.image ((rows.y + 1) * rows.image.shape.columns) new.bands
-        → CodesAll was new.end (line_of p rows.image 0 [] depth rows.y) → IsUnderWay p new
+        → CodesAll was new.end (line_of p rows.image 0 [] depth rows.y) → AreLinesUnderWay p new
     unfolding image_of_rows
     next_under was depth new same order y_is offsets_are above_is bands_are at codes =
         let depths : Bi under.depth ≡ Bi depth = sym under.order ∙ order in
@@ -212,21 +212,21 @@ module _ (p : Params) (e : RowEncoderState) (samples : List ℕ) (under : IsUnde
 
 -- ---- after the last row
 
-module _ (p : Params) (e : RowEncoderState) (under : IsUnderWay p e) (last : e.y ≡ p.shape.rows) where
-  coded_whole : HasCoded p e.end (residuals p (image_so_far p e.offsets))
+module _ (p : Params) (e : LineEncoderState) (under : AreLinesUnderWay p e) (last : e.y ≡ p.shape.rows) where
+  coded_whole : HasCoded p e.end (residuals p (image_by_lines p e.offsets))
   unfolding image_of_rows
   coded_whole =
-      let c : Image = image_so_far p e.offsets in
+      let c : Image = image_by_lines p e.offsets in
       let all : lines_of p c under.depth p.shape.rows ≡ residuals p c =
       subst (λ order. own_residuals p c 0 [] order ≡ residuals p c) under.order (all_residuals p c under.lawful.order refl) in
       subst (HasCoded p e.end) (ap (λ n. lines_of p c under.depth n) last ∙ all) under.coded
 
   pub none_left_now : e.end.left ≡ []
   unfolding image_of_rows
-  none_left_now = none_left p (image_so_far p e.offsets) e.end under.lawful.order refl coded_whole
+  none_left_now = none_left p (image_by_lines p e.offsets) e.end under.lawful.order refl coded_whole
 
-  pub file_is : (bytes : List ℕ) → ((q : Params) (numbers : List ℕ) → HasCoded q e.end numbers → bytes ≡ file_of_residuals numbers q) → IsFileOfRows p e.offsets bytes
+  pub file_is : (bytes : List ℕ) → ((q : Params) (numbers : List ℕ) → HasCoded q e.end numbers → bytes ≡ file_of_residuals numbers q) → IsFileOfLines p e.offsets bytes
   unfolding file_of
   file_is bytes h c cube shape kind rows =
-      h p (residuals p (image_so_far p e.offsets)) coded_whole
+      h p (residuals p (image_by_lines p e.offsets)) coded_whole
       ∙ ap (λ (d : Image). file_of_residuals (residuals p d) p) (whole_image p c e.offsets under.lawful cube shape kind rows under.range)

@@ -1,6 +1,6 @@
 use Rattle.std.proofs.Common.{◌≡◌, ◌*◌, length, refl, ap₂, arith}
-use Rattle.file_encoding.proofs.RowSteps.{start_under}
-use Rattle.file_encoding.proofs.row_encoder.RowEncoder.new.Goals as goal
+use Rattle.file_encoding.proofs.LineSteps.{start_under}
+use Rattle.file_encoding.proofs.line_encoder.LineEncoder.new.Goals as goal
 
 pub returns-clause-under_way : goal.returns-clause-under_way
 returns-clause-under_way c =

@@ -2,7 +2,7 @@ use Rattle.std.proofs.Common.{sym, subst, ◌∙◌}
 use Rattle.file_encoding.specs.Ends.{CodesAll, MayCodeAll}
 use Rattle.file_encoding.proofs.Encoding.{own_all}
 use Rattle.file_encoding.proofs.Groups.{line_alone}
-use Rattle.file_encoding.proofs.row_encoder.send_all_bands.Goals as goal
+use Rattle.file_encoding.proofs.line_encoder.send_all_bands.Goals as goal
 
 pub send_each_row-requires-clause-may : goal.send_each_row-requires-clause-may
 send_each_row-requires-clause-may c =

@@ -4,16 +4,16 @@ use Rattle.std.specs.Vec.{with_items}
 use Rattle.header_bits.specs.declared.params.Params.{Params}
 use Rattle.sample_prediction.specs.HandedRows.{image_of_rows}
 use Rattle.file_encoding.specs.Walks.{bands_of}
-use Rattle.file_encoding.specs.ByRows.{RowEncoderState, image_so_far}
-use Rattle.file_encoding.proofs.RowSteps.{at_given, image_given, may_given, next_under, own_given, row_given}
-use Rattle.file_encoding.proofs.row_encoder.RowEncoder.row.Goals as goal
-use Rattle.file_encoding.proofs.row_encoder.RowEncoder.row.Goals.{After-send_all_bands-arg-3-1, then-self-eq0, else-self-eq0}
+use Rattle.file_encoding.specs.ByLines.{LineEncoderState, image_by_lines}
+use Rattle.file_encoding.proofs.LineSteps.{at_given, image_given, may_given, next_under, own_given, row_given}
+use Rattle.file_encoding.proofs.line_encoder.LineEncoder.row.Goals as goal
+use Rattle.file_encoding.proofs.line_encoder.LineEncoder.row.Goals.{After-send_all_bands-arg-3-1, then-self-eq0, else-self-eq0}
 
 module _ (c : After-send_all_bands-arg-3-1) where
   abbrev p : Params
   p = c.args.params.now
 
-  abbrev e : RowEncoderState
+  abbrev e : LineEncoderState
   e = c.args.self.now
 
   abbrev all : List ℕ
@@ -24,33 +24,33 @@ module _ (c : After-send_all_bands-arg-3-1) where
       elim c.if-self-eq0.branch [
         | then-self-eq0 w ↦ ap (λ i. i.y) w.self-inside-is
         | else-self-eq0 w ↦ ap (λ i. i.y) w.self-inside-is
-      ] ∙ ap (λ (s : RowEncoderState). s.y) c.self.view_is
+      ] ∙ ap (λ (s : LineEncoderState). s.y) c.self.view_is
 
   offsets_are : c.if-self-eq0.self-inside.handed.offsets ≡ all
   offsets_are =
       elim c.if-self-eq0.branch [
         | then-self-eq0 w ↦ ap (λ i. i.handed.offsets) w.self-inside-is
         | else-self-eq0 w ↦ ap (λ i. i.handed.offsets) w.self-inside-is
-      ] ∙ c.and-self-inside.ensures ∙ ap (λ (s : RowEncoderState). s.offsets ++ c.args.samples.now) c.self.view_is
+      ] ∙ c.and-self-inside.ensures ∙ ap (λ (s : LineEncoderState). s.offsets ++ c.args.samples.now) c.self.view_is
 
   end_is : c.if-self-eq0.self-inside.end ≡ e.end
   end_is =
       elim c.if-self-eq0.branch [
         | then-self-eq0 w ↦ ap (λ i. i.end) w.self-inside-is
         | else-self-eq0 w ↦ ap (λ i. i.end) w.self-inside-is
-      ] ∙ ap (λ (s : RowEncoderState). s.end) c.self.view_is
+      ] ∙ ap (λ (s : LineEncoderState). s.end) c.self.view_is
 
   bands_are : c.if-self-eq0.self-inside.bands.items ≡ e.bands
   bands_are =
       elim c.if-self-eq0.branch [
         | then-self-eq0 w ↦ ap (λ i. i.bands.items) w.self-inside-is
         | else-self-eq0 w ↦ ap (λ i. i.bands.items) w.self-inside-is
-      ] ∙ ap (λ (s : RowEncoderState). s.bands) c.self.view_is
+      ] ∙ ap (λ (s : LineEncoderState). s.bands) c.self.view_is
 
   lent_are : c.deref_mut.result.now ≡ e.bands
   lent_are = c.deref_mut.ensures.value ∙ bands_are
 
-  rows_are : c.of_last-rows.result ≡ record { image = image_so_far p all; y = e.y }
+  rows_are : c.of_last-rows.result ≡ record { image = image_by_lines p all; y = e.y }
   rows_are = c.of_last-rows.ensures ∙ ap₂ (λ offsets y. record { image = image_of_rows p.shape p.kind offsets; y = y }) offsets_are y_is
 
 pub send_all_bands-requires-clause-image : goal.send_all_bands-requires-clause-image
