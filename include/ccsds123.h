@@ -265,8 +265,15 @@ int32_t ccsds123_encode(const ccsds123_params *params,
 
 /* ---- Encoding row by row */
 
-/* A scene that is coded while its raw bytes come, for scenes that are larger than memory: what is kept is a row, the state of the coder,
- * and the file so far.
+/* A scene that is coded while its raw bytes come, for scenes that are larger than memory. Order and layout both interleave the bands, or neither
+ * does, so that rows come as they are coded:
+ *
+ *   - both interleave them: a row is one of all bands, columns * bands samples, and `rows` of these make the scene;
+ *   - both are band sequential: a row is one of a single band, `columns` samples, and `rows` of each band in turn make the scene.
+ *
+ * What is kept is the state of the coder, the file so far, and a row in the first case. In the second it is `previous` + 16 planes of two bytes
+ * a sample, and two rows of all bands: the planes of the bands that the next ones are predicted from, and those of eight bands that are
+ * predicted together, with their residuals. So it pays for scenes that have many more bands.
  *
  *     ccsds123_encoder encoder = CCSDS123_ENCODER_NONE;
  *
@@ -286,16 +293,16 @@ typedef struct ccsds123_encoder {
 
 #define CCSDS123_ENCODER_NONE { NULL, 0 }
 
-/* Begins a scene with these parameters, whose raw bytes will come in this layout. `params->order` is CCSDS123_ORDER_BI, of any depth, and the
- * layout's interleave CCSDS123_BIL or CCSDS123_BIP. An encoder that was begun before and not ended is freed.
+/* Begins a scene with these parameters, whose raw bytes will come in this layout: CCSDS123_ORDER_BI, of any depth, with CCSDS123_BIL or
+ * CCSDS123_BIP, or CCSDS123_ORDER_BSQ with CCSDS123_BSQ. An encoder that was begun before and not ended is freed.
  *
- * Faults: those of `ccsds123_params_check`; CHOICE of the interleave, of the bytes; CHOICE of the order, of the interleave where they aren't
- * those above; WANT_OF_MEMORY. There is then no encoder. */
+ * Faults: those of `ccsds123_params_check`; CHOICE of the interleave, of the bytes; CHOICE of the order, where it is band sequential and the
+ * layout isn't; CHOICE of the interleave, where it is band sequential and the order isn't; WANT_OF_MEMORY. There is then no encoder. */
 int32_t ccsds123_encoder_begin(ccsds123_encoder *encoder, const ccsds123_params *params,
     const int32_t *weights, size_t weight_count, const uint8_t *accumulators, size_t accumulator_count,
     const ccsds123_layout *layout, ccsds123_fault *fault);
 
-/* Takes the raw bytes of the scene's next rows: any number of whole rows of all bands, none included.
+/* Takes the raw bytes of the scene's next rows: any number of whole rows, none included.
  *
  * Faults: USAGE where there is no encoder; RAW_LENGTH, of the whole scene and of all bytes that have come with these, where they aren't whole
  * rows or are more than the scene still wants; WANT_OF_MEMORY; SAMPLE_RANGE, with the index in the whole scene. Each of them frees the

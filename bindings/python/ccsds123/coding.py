@@ -15,7 +15,7 @@ from .library import CParams
 from .params import Params
 from .records import c_layout, c_params, c_tables, params_of
 from .rooms import ROOM, room_of
-from .rows import encode_by_rows
+from .rows import encode_by_rows, goes_by_rows
 from .samples import address_of, samples_of
 
 HEADER_BYTES = 4 << 20
@@ -34,8 +34,11 @@ def encode(
     three dimensions has the shape (bands, rows, columns) with `interleave="bsq"`, (rows, bands, columns) with `"bil"`, (rows, columns, bands) with
     `"bip"`; a buffer of one dimension needs `columns`, `rows` and `bands`. Plain bytes of two for each sample need `byteorder`.
 
-    With `order="bi"` and `interleave` `"bil"` or `"bip"`, samples are read once, row by row: a scene that is mapped (`mmap`, `numpy.memmap`) isn't
-    loaded. `bits` are all bits of a sample unless given. `options` are further members of Params; or `params` has all of them, and the sizes.
+    Samples that lie as they are coded are read once, row by row: with `order="bi"` and `interleave` `"bil"` or `"bip"`, and band sequential in both where
+    there are at least twice `previous` + 16 bands. A scene that is mapped (`mmap`, `numpy.memmap`) then isn't loaded: what is kept beside the file is
+    a row, or `previous` + 16 planes of two bytes a sample. Else all samples are, two bytes each.
+
+    `bits` are all bits of a sample unless given. `options` are further members of Params; or `params` has all of them, and the sizes.
     Raises Fault where parameters or samples are refused.
     """
     sizes = {"columns": columns, "rows": rows, "bands": bands}
@@ -51,9 +54,9 @@ def encode(
 
 
 def encode_raw(data: Any, params: Params, interleave: str, sample_bytes: int, byteorder: str) -> bytes:
-    """Returns the file of raw bytes that lie as said. Where order and layout both interleave the bands, the bytes are read row by row and not copied, so
-    that a mapped scene may be larger than memory."""
-    if params.order == "bi" and interleave != "bsq" and memoryview(data).nbytes == params.count * sample_bytes:
+    """Returns the file of raw bytes that lie as said. Where they can be coded row by row in little memory, they are, and not copied, so that a mapped
+    scene may be larger than memory."""
+    if goes_by_rows(params, interleave) and memoryview(data).nbytes == params.count * sample_bytes:
         return encode_by_rows(data, params, interleave, sample_bytes, byteorder)
     given, tables = c_params(params), c_tables(params)
     layout, bound, length = c_layout(interleave, sample_bytes, byteorder), c_uint64(), c_uint64()

@@ -18,16 +18,24 @@ AT_ONCE = 1 << 24
 """The bytes that are coded in one call, after which Python sees an interrupt."""
 
 
+KEPT_PLANES = 16
+"""The planes that are kept of a band sequential scene, beside those of the bands that a band is predicted from."""
+
+
 class RowEncoder:
-    """Codes a scene whose rows come one after another, in an interleaved order; it keeps one row and the file so far.
+    """Codes a scene whose rows come one after another, in the order in which they are coded.
 
         with ccsds123.RowEncoder(columns=614, rows=512, bands=224, bits=16, signed=True, interleave="bil") as encoder:
             for block in blocks:                # arrays of (some rows, bands, columns)
                 encoder.rows(block)
             file = encoder.end()
 
-    Parameters are keywords named as the members of Params, with the order `"bi"` unless given; or `params` has all of them. Samples come with
-    `interleave` `"bil"` or `"bip"`, of `sample_bytes` each (unless given, 1 where `bits` are at most 8, else 2) and in `byteorder`.
+    Samples come with `interleave` `"bil"` or `"bip"` for the order `"bi"`, and `"bsq"` for `"bsq"`; of `sample_bytes` each (unless given, 1 where `bits`
+    are at most 8, else 2) and in `byteorder`. Parameters are keywords named as the members of Params, where the order is the one that the interleave
+    needs unless given; or `params` has all of them.
+
+    A row by line or by pixel is one of all bands, and what is kept is one row and the file so far. A band sequential row is one of a single band: each
+    of the first band, then each of the second. What is kept is then `previous` + 16 planes, of two bytes a sample, and the file so far.
 
     A refusal raises Fault and frees the encoder; any call after it, or after the end, raises the fault `20 Usage`. One thread makes all calls.
     """
@@ -37,7 +45,7 @@ class RowEncoder:
     ) -> None:
         if params is not None and options:
             raise TypeError(f"params were given, and {', '.join(options)} beside them")
-        self.params = Params(**{"order": "bi", **options}) if params is None else params
+        self.params = Params(**{"order": "bsq" if interleave == "bsq" else "bi", **options}) if params is None else params
         self.interleave, self.byteorder = interleave, byteorder
         self.sample_bytes = sample_bytes or (1 if self.params.bits <= 8 else 2)
         self.encoder = CEncoder()
@@ -48,7 +56,8 @@ class RowEncoder:
         """Takes the next rows, as many as there are.
 
         `samples` is an array of the shape (some rows, bands, columns) with `interleave="bil"`, (some rows, columns, bands) with `"bip"`, or of one
-        row without the first dimension, whose items are as the encoder was told; or plain bytes, which are raw samples one after another.
+        row without the first dimension; with `"bsq"` (some bands, rows, columns), or (some rows, columns) of one band. Its items are as the encoder
+        was told. Or it is plain bytes, which are raw samples one after another.
 
         Raises Fault: `RawLength` where there aren't whole rows, or more than the scene still wants; `SampleRange` with an index in the whole scene.
         """
@@ -65,8 +74,11 @@ class RowEncoder:
         if (size, signed, order) != wanted:
             raise TypeError(f"the items have to be {items(*wanted)}, and are {items(size, signed, order)}")
         shape = self.params.shape(self.interleave)[1:]
-        if view.ndim > 3 or (view.ndim > 1 and view.shape[-2:] != shape):
-            raise TypeError(f"an array has the shape (some rows, {shape[0]}, {shape[1]}), by interleave={self.interleave!r}, and not {view.shape}")
+        if view.ndim == 2 and self.interleave == "bsq":
+            shape = shape[1:]
+        if view.ndim > 3 or (view.ndim > 1 and view.shape[-len(shape) :] != shape):
+            whole = ", ".join(map(str, shape))
+            raise TypeError(f"an array has the shape (any number, {whole}), by interleave={self.interleave!r}, and not {view.shape}")
 
     def end(self) -> bytes:
         """Returns the file, once all rows were taken: the one that `encode` returns of all samples together.
@@ -106,11 +118,19 @@ def items(size: int, signed: bool, byteorder: str) -> str:
     return f"{'signed' if signed else 'unsigned'} integers of {8 * size} bits{order}"
 
 
+def goes_by_rows(params: Params, interleave: str) -> bool:
+    """Returns whether a scene is coded row by row: where order and layout both interleave the bands, or neither does and what is kept is at most half of
+    its planes."""
+    if params.order == "bsq" and interleave == "bsq":
+        return 2 * (params.previous + KEPT_PLANES) <= params.bands
+    return params.order != "bsq" and interleave != "bsq"
+
+
 def encode_by_rows(data: Any, params: Params, interleave: str, sample_bytes: int, byteorder: str) -> bytes:
-    """Returns the file of raw bytes of the right number, whose rows interleave the bands, as does their order; they are read once, from first to last."""
-    row = params.columns * params.bands * sample_bytes
-    step = max(1, AT_ONCE // row) * row
+    """Returns the file of raw bytes of the right number, whose rows come as they are coded; they are read once, from first to last."""
     with RowEncoder(params, interleave=interleave, sample_bytes=sample_bytes, byteorder=byteorder) as encoder:
+        row = params.columns * sample_bytes * (1 if interleave == "bsq" else params.bands)
+        step = max(1, AT_ONCE // row) * row
         with memoryview(data) as view, view.cast("B") as raw:
             for at in range(0, len(raw), step):
                 with raw[at : at + step] as piece:

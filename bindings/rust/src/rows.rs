@@ -8,7 +8,10 @@ use crate::params::Params;
 use std::fmt;
 use std::ptr::null_mut;
 
-/// Codes a scene whose raw bytes come row after row: it keeps a row, the state of the coder, and the file so far.
+/// Codes a scene whose raw bytes come row after row, in the order in which they are coded: both interleave the bands, or both are band sequential.
+///
+/// Where bands are interleaved, a row is one of all bands, and what is kept is a row, the state of the coder, and the file so far. Else it is a row of
+/// one band, and what is kept is `previous` + 16 planes, the state of the coder, and the file so far.
 ///
 /// A refusal ends the encoder; each call after it is refused as [`Fault::Usage`]. An encoder stays on the thread that made it.
 ///
@@ -28,10 +31,11 @@ pub struct RowEncoder {
 }
 
 impl RowEncoder {
-    /// Begins a scene with these parameters, in a band interleaved order, whose raw bytes will come in this layout, by line or by pixel.
+    /// Begins a scene with these parameters, whose raw bytes will come in this layout.
     ///
     /// # Errors
-    /// What [`Params::check`] finds; `Choice` of the layout, and of an order or a layout that doesn't interleave bands; `WantOfMemory`.
+    /// What [`Params::check`] finds; `Choice` of the layout, of a band sequential order where the layout interleaves bands, and of a band sequential
+    /// layout where the order does; `WantOfMemory`.
     pub fn new(params: &Params, layout: Layout) -> Result<RowEncoder, Fault> {
         let mut encoder = RowEncoder { raw: ffi::Encoder { state: null_mut(), is_open: 0 } };
         // SAFETY: all pointers are valid, and the encoder is none.
@@ -39,7 +43,7 @@ impl RowEncoder {
         Ok(encoder)
     }
 
-    /// Takes the raw bytes of the next rows of all bands, as many as there are.
+    /// Takes the raw bytes of the next rows, as many as there are.
     ///
     /// # Errors
     /// `RawLength` where they aren't whole rows, or more than the scene still wants; `SampleRange` with the index in the whole scene; `WantOfMemory`.

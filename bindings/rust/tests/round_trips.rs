@@ -131,39 +131,58 @@ fn many_threads_at_once() {
     });
 }
 
+/// Checks that rows of so many bytes, handed over two at a time, give the file of all raw bytes.
+fn check_rows(params: &Params, interleave: Interleave, row: usize) {
+    let layout = Layout { interleave, bytes: 2, little: true };
+    let raw: Vec<u8> = scene(params).iter().flat_map(|sample| sample.to_le_bytes()).collect();
+    let mut encoder = RowEncoder::new(params, layout).unwrap();
+    for rows in raw.chunks(2 * row) {
+        encoder.rows(rows).unwrap();
+    }
+    assert_eq!(encoder.end(), encode(params, layout, &raw));
+}
+
 #[test]
 fn rows_give_the_same_file() {
     for depth in 1..=4 {
         let params = Params { order: Order::BandInterleaved { depth }, ..Params::new(6, 5, 4, 12) };
         for interleave in [Interleave::Bil, Interleave::Bip] {
-            let layout = Layout { interleave, bytes: 2, little: true };
-            let raw: Vec<u8> = scene(&params).iter().flat_map(|sample| sample.to_le_bytes()).collect();
-            let mut encoder = RowEncoder::new(&params, layout).unwrap();
-            for rows in raw.chunks(96) {
-                encoder.rows(rows).unwrap();
-            }
-            assert_eq!(encoder.end(), encode(&params, layout, &raw));
+            check_rows(&params, interleave, 48);
+        }
+    }
+    for previous in [0, 1, 3, 15] {
+        for bands in [1, 4, 8, 9, 40] {
+            check_rows(&Params { previous, ..Params::new(6, 5, bands, 12) }, Interleave::Bsq, 12);
         }
     }
 }
 
 #[test]
+fn orders_and_layouts_that_disagree_are_refused_by_name() {
+    let layout = |interleave| Layout { interleave, bytes: 2, little: false };
+    let (sequential, interleaved) = (Params::new(6, 5, 4, 12), Params { order: Order::BandInterleaved { depth: 1 }, ..Params::new(6, 5, 4, 12) });
+    for interleave in [Interleave::Bil, Interleave::Bip] {
+        assert_eq!(RowEncoder::new(&sequential, layout(interleave)).err(), Some(Fault::Choice { member: Member::Order, value: 0 }));
+    }
+    assert_eq!(RowEncoder::new(&interleaved, layout(Interleave::Bsq)).err(), Some(Fault::Choice { member: Member::Interleave, value: 0 }));
+}
+
+#[test]
 fn rows_are_refused_by_name() {
-    let layout = Layout { interleave: Interleave::Bil, bytes: 2, little: false };
-    let params = Params { order: Order::BandInterleaved { depth: 1 }, ..Params::new(6, 5, 4, 12) };
-    let begun = || RowEncoder::new(&params, layout).unwrap();
-    assert_eq!(RowEncoder::new(&Params::new(6, 5, 4, 12), layout).err(), Some(Fault::Choice { member: Member::Order, value: 0 }));
-    let bsq = Layout { interleave: Interleave::Bsq, ..layout };
-    assert_eq!(RowEncoder::new(&params, bsq).err(), Some(Fault::Choice { member: Member::Interleave, value: 0 }));
-    let mut encoder = begun();
-    assert_eq!(encoder.rows(&[0; 47]), Err(Fault::RawLength { wanted: 240, had: 47 }));
-    assert_eq!(encoder.rows(&[0; 48]), Err(Fault::Usage));
-    assert_eq!(encoder.end(), Err(Fault::Usage));
-    let mut encoder = begun();
-    assert_eq!(encoder.rows(&[0; 48]), Ok(()));
-    assert_eq!(encoder.end(), Err(Fault::RawLength { wanted: 240, had: 48 }));
-    let mut encoder = begun();
-    assert_eq!(encoder.rows(&[0; 48]), Ok(()));
-    assert_eq!(encoder.rows(&[255; 48]), Err(Fault::SampleRange { index: 24 }));
-    drop(begun());
+    let interleaved = Params { order: Order::BandInterleaved { depth: 1 }, ..Params::new(6, 5, 4, 12) };
+    for (params, interleave, row) in [(&interleaved, Interleave::Bil, 48), (&Params::new(6, 5, 4, 12), Interleave::Bsq, 12)] {
+        let layout = Layout { interleave, bytes: 2, little: false };
+        let begun = || RowEncoder::new(params, layout).unwrap();
+        let mut encoder = begun();
+        assert_eq!(encoder.rows(&vec![0; row - 1]), Err(Fault::RawLength { wanted: 240, had: row as u64 - 1 }));
+        assert_eq!(encoder.rows(&vec![0; row]), Err(Fault::Usage));
+        assert_eq!(encoder.end(), Err(Fault::Usage));
+        let mut encoder = begun();
+        assert_eq!(encoder.rows(&vec![0; row]), Ok(()));
+        assert_eq!(encoder.end(), Err(Fault::RawLength { wanted: 240, had: row as u64 }));
+        let mut encoder = begun();
+        assert_eq!(encoder.rows(&vec![0; row]), Ok(()));
+        assert_eq!(encoder.rows(&vec![255; row]), Err(Fault::SampleRange { index: row as u64 / 2 }));
+        drop(begun());
+    }
 }
