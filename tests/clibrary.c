@@ -129,7 +129,7 @@ static int is_well_by_rows(const struct set *set)
     ccsds123_encoder encoder = CCSDS123_ENCODER_NONE, other = CCSDS123_ENCODER_NONE;
     ccsds123_fault fault;
     const int32_t *weights = (const int32_t *)(const void *)set->weights.bytes;
-    size_t row = (size_t)set->params.columns * set->params.bands * set->layout.bytes, at;
+    size_t bands = set->layout.interleave == CCSDS123_BSQ ? 1 : set->params.bands, row = set->params.columns * bands * set->layout.bytes, at;
     struct edge file = edge_of(set->file.length), less = edge_of(set->file.length - 1);
     uint64_t length = 9;
     int well = ccsds123_encoder_begin(&encoder, &set->params, weights, set->weights.length / sizeof(int32_t), set->accumulators.bytes,
@@ -153,7 +153,7 @@ static int is_well_by_rows(const struct set *set)
 }
 
 /* Returns whether a set is coded to its file, and decoded to its raw bytes; its file is no longer than the bound. Where its order and its
- * layout both interleave the bands, rows are coded to it, too. */
+ * layout both interleave the bands, or neither does, rows are coded to it, too. */
 static int is_well(const struct set *set)
 {
     ccsds123_fault fault;
@@ -166,7 +166,7 @@ static int is_well(const struct set *set)
     well = well && length == set->file.length && memcmp(file.bytes, set->file.bytes, length) == 0;
     well = well && ccsds123_decode(set->file.bytes, set->file.length, &set->layout, raw.bytes, raw.length, &again, &fault) == 0;
     well = well && again == raw.length && memcmp(raw.bytes, set->raw.bytes, again) == 0;
-    if (set->params.order == CCSDS123_ORDER_BI && set->layout.interleave != CCSDS123_BSQ)
+    if ((set->params.order == CCSDS123_ORDER_BSQ) == (set->layout.interleave == CCSDS123_BSQ))
         well = well && is_well_by_rows(set);
     drop(file);
     drop(raw);

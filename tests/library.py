@@ -4,9 +4,9 @@
     tests/library.py [SEED [COUNT [LIBRARY [PROGRAM]]]]
 
 SEED alone determines COUNT sets of parameters, layouts and samples. Without tables the file has to be the program's, byte for byte, and the
-library has to read it back; with tables, which no command line can give, the model and the program have to read the file. In an interleaved order
-rows that are handed over in pieces have to give the same file. Then come the refusals: what C may give that is wrong, and damaged files, whose
-faults are the model's. SEED defaults to 1 and COUNT to 100.
+library has to read it back; with tables, which no command line can give, the model and the program have to read the file. Rows that are handed over in
+pieces, in each layout, have to give the same file. Then come the refusals: what C may give that is wrong, and damaged files, whose faults are the
+model's. SEED defaults to 1 and COUNT to 100.
 """
 
 import sys

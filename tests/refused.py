@@ -84,6 +84,8 @@ class Room(Workroom):
 
 
 SIZES = ["--columns", 40, "--rows", 9, "--bands", 6, "--bits", 12]
+# The same raw bytes as a scene of enough bands to be coded row by row in band sequential order: twice the 19 planes that are kept, or more.
+MANY = ["--columns", 6, "--rows", 8, "--bands", 45, "--bits", 12]
 BLOCKS = ["--coder", "block", "--block", 8, "--reference", 4]
 
 # The words of each command, and the lines that it may print on standard error when an allocation is refused, apart from none.
@@ -95,6 +97,7 @@ COMMANDS = {
         ["compress", *SIZES, *BLOCKS, "--layout", "bip", "--order", "bi", "--depth", 6, "scene.raw", "out"],
         [MEMORY],
     ),
+    "compress, row by row, band sequential": (["compress", *MANY, "scene.raw", "out"], [MEMORY]),
     "compress, one predictor": (["compress", *SIZES, "--predictors", 1, "scene.raw", "out"], [MEMORY, THREAD]),
     "compress, three predictors": (["compress", *SIZES, "--predictors", 3, "--slots", 8, "scene.raw", "out"], [MEMORY, THREAD]),
     "expand, sample-adaptive": (["expand", "sample.file", "out"], [MEMORY]),

@@ -106,17 +106,21 @@ def no_second_copy(room):
 
 
 def by_rows(room):
-    """Checks that `compress` holds the file and a few rows where raw bytes and order both interleave the bands: at most 0.45 of the raw bytes.
+    """Checks that `compress` holds the file and little else where raw bytes come as they are coded: at most 0.45 of the raw bytes.
 
-    The scene has a third of its raw bytes left in its file."""
-    columns, rows, bands = shape = (1_024, 2_048, 24)
-    noise = random.Random(16).randbytes(columns * rows * bands).translate(bytes(i % 20 for i in range(256)))
-    raw = bytearray(2 * len(noise))
-    raw[1::2] = noise
-    room.write("raw", bytes(raw))
-    for layout, depth in (("bil", 1), ("bip", bands)):
-        name = f"{shape} by {layout}, row by row"
-        words = [*sizes_of(shape, 2, "sample"), "--layout", layout, "--order", "bi", "--depth", depth]
+    That is a few rows where both interleave the bands, and 19 planes where both are band sequential. The scenes have a third of their raw bytes left
+    in their files."""
+    for shape, layout, order in (
+        ((1_024, 2_048, 24), "bil", ["bi", "--depth", 1]),
+        ((1_024, 2_048, 24), "bip", ["bi", "--depth", 24]),
+        ((1_024, 128, 400), "bsq", ["bsq"]),
+    ):
+        name, count = f"{shape} by {layout}, row by row", shape[0] * shape[1] * shape[2]
+        noise = random.Random(16).randbytes(count).translate(bytes(i % 20 for i in range(256)))
+        raw = bytearray(2 * count)
+        raw[1::2] = noise
+        room.write("raw", bytes(raw))
+        words = [*sizes_of(shape, 2, "sample"), "--layout", layout, "--order", *order]
         room.expect(name, room.run("compress", *words, "raw", "file", limit=int(0.45 * len(raw)) + (8 << 20)), (0, b"", ""))
         room.expect(f"{name}: a third", 0.3 < len(room.read("file")) / len(raw) < 0.34, True)
         room.expect(f"{name}, expanded", room.run("expand", "--layout", layout, "file", "back"), (0, b"", ""))
