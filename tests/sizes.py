@@ -4,9 +4,11 @@
     tests/sizes.py [PROGRAM]
 
 No contract can refuse a function that returns `WantOfMemory` without need, or allocates far too much. Therefore each size takes its
-greatest value here, in each order that the program treats differently, and some scenes have more than 2^24 or 2^26 samples.
+greatest value here, in each order that the program treats differently, and some scenes have more than 2^24 or 2^26 samples. With
+GIGABYTES=1 in the environment, a scene of a gigabyte comes last, or of as many as are asked for.
 """
 
+import filecmp
 import os
 import random
 import sys
@@ -127,6 +129,29 @@ def by_rows(room):
         room.expect(f"{name}, expanded to its bytes", room.read("back") == bytes(raw), True)
 
 
+def great_scene(room, gigabytes):
+    """Checks these bounds on a scene of so many gigabytes: 0.45 of the raw bytes as they come, and 1.45 by another order and expanded."""
+    shape = columns, rows, bands = (1_024, 1_024, 480 * gigabytes)
+    chance, low = random.Random(16), bytes(i % 20 for i in range(256))
+    with open(room.path("raw"), "wb") as raw:
+        for _ in range(bands):
+            plane = bytearray(2 * columns * rows)
+            plane[1::2] = chance.randbytes(columns * rows).translate(low)
+            raw.write(plane)
+    size = os.path.getsize(room.path("raw"))
+    for layout, order, times in (
+        ("bsq", ["bsq"], 0.45),
+        ("bil", ["bi", "--depth", 1], 0.45),
+        ("bip", ["bi", "--depth", bands], 0.45),
+        ("bil", ["bsq"], 1.45),
+    ):
+        name, words = f"{shape} by {layout}", [*sizes_of(shape, 2, "sample"), "--layout", layout, "--order", *order]
+        room.expect(name, room.run("compress", *words, "raw", "file", limit=int(times * size)), (0, b"", ""))
+        room.expect(f"{name}: a third", 0.3 < os.path.getsize(room.path("file")) / size < 0.34, True)
+    room.expect(f"{shape}, expanded", room.run("expand", "--layout", "bil", "file", "back", limit=int(1.45 * size)), (0, b"", ""))
+    room.expect(f"{shape}, expanded to its bytes", filecmp.cmp(room.path("raw"), room.path("back"), shallow=False), True)
+
+
 def no_spare_bytes(room):
     """Checks that `expand` gives back what the file's bytes grew by ahead of what came, where that is far more than the file needs.
 
@@ -232,6 +257,8 @@ def main():
         room = Room(folder, sys.argv[1] if len(sys.argv) > 1 else PROGRAM)
         for part in (long_sides, many_samples, no_second_copy, by_rows, no_spare_bytes, great_refusals, most_samples, great_show, great_tables):
             part(room)
+        if "GIGABYTES" in os.environ:
+            great_scene(room, int(os.environ["GIGABYTES"]))
     print(f"sizes.py: {room.passed} passed, {room.failed} failed")
     return 1 if room.failed else 0
 
