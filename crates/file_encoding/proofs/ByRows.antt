@@ -15,7 +15,6 @@ use Rattle.sample_prediction.proofs.HandedRows.{image_is_cube, sample_by_rows}
 use Rattle.file_encoding.specs.ByLines.{LineEncoderState, AreLinesUnderWay, HasLines, IsFileOfLines}
 use Rattle.file_encoding.specs.ByPlanes.{PlaneEncoderState, ArePlanesUnderWay, HasPlanes, IsFileOfPlanes, image_of_planes}
 use Rattle.file_encoding.specs.ByRows.{HasRows, IsFileOfRows, IsUnderWay, IsWalking, RowEncoderState, band_in_row, image_in, image_so_far, index_handed, row_of_place, rows_handed, rows_of_order, rows_walked}
-use Rattle.file_encoding.specs.declared.row_encoder.Walk.{Walk}
 use Rattle.file_encoding.specs.declared.row_encoder.Walk.TheVariants as walk
 use Rattle.file_encoding.proofs.ByPlanes.{planes_are_cube, sample_by_planes}
 

@@ -20,7 +20,7 @@ use Rattle.raw_rows.specs.OneRow.{AreBandRows, one_row, row_number, band_in_row 
 use Rattle.raw_rows.specs.Together.{GoTogether}
 use Rattle.raw_rows.proofs.RowImages.{row_found}
 use Rattle.raw_rows.proofs.RowSizes.{same_columns}
-use Rattle.file_encoding.specs.ByRows.{band_in_row, image_in, image_so_far, row_of_place, rows_of_order}
+use Rattle.file_encoding.specs.ByRows.{band_in_row, image_so_far, row_of_place, rows_of_order}
 use Rattle.file_encoding.proofs.ByRows.{cube_so_far, earlier_same, kind_in, row_there, shape_in}
 
 -- ---- the same rows

@@ -30,7 +30,6 @@ pub(crate) fn keep_planes(
     present: &mut Vec<u16>,
     above: &mut Vec<u16>,
     room: &mut [u16],
-    group: &mut GroupRoom,
 )
     requires lawful { IsLawful params.now }
     requires among { AreAmong params.now base many planes.now (bands_of bands.old) }
@@ -47,6 +46,7 @@ pub(crate) fn keep_planes(
     let shape = params.shape;
     let columns = shape.columns() as usize;
     let plane = shape.rows() as usize * columns;
+    let mut group = GroupRoom::new();
     let mut handed = HandedRows::none();
     for y in 0..shape.rows() {
         next_lines(params, base, y, planes, many, present, above);
@@ -59,7 +59,7 @@ pub(crate) fn keep_planes(
             plane,
             bands,
             room,
-            group,
+            &mut group,
         );
     }
 }

@@ -15,7 +15,6 @@ use cube_core::fault::Fault;
 use header_bits::params::Params;
 use predict_core::band::Band;
 use predict_core::bands::all_bands;
-use predict_core::group::room::GroupRoom;
 use predict_core::handed::HandedRows;
 use std::alloc::Global;
 use std::marker::Model;
@@ -33,7 +32,6 @@ pub struct PlaneEncoder {
     above: Vec<u16>,
     room: Vec<u16>,
     bands: Vec<Band>,
-    group: GroupRoom,
     end: FileEncoder,
     /// The rows so far, one after another, each of one band.
     handed: HandedRows,
@@ -78,7 +76,6 @@ impl PlaneEncoder {
             above,
             room,
             bands,
-            group: GroupRoom::new(),
             end,
             handed: HandedRows::none(),
         })
@@ -122,7 +119,6 @@ impl PlaneEncoder {
             above: _,
             room: _,
             bands: _,
-            group: _,
             end,
             handed: _,
         } = self;
@@ -177,7 +173,6 @@ impl PlaneEncoder {
             &mut self.present,
             &mut self.above,
             &mut self.room,
-            &mut self.group,
         );
         let sent = (next - self.first) as usize * plane;
         self.end.put_all(&self.room[..sent])?;
