@@ -19,6 +19,7 @@ CRATES = TOP / "crates"
 PAGE = TOP / "docs" / "AUDIT.md"
 CLAIMS = [
     ("file_encoding/src/encode.rt", "encode_one"),
+    ("file_encoding/src/encode.rt", "encode_owned"),
     ("coder_pipe/src/encode_predicted.rt", "encode_predicted"),
     ("file_decoding/src/decode.rt", "decode"),
 ]

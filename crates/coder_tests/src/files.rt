@@ -15,6 +15,7 @@ use coder_pipe::encode::encode_one;
 use cube_core::cube::Cube;
 use cube_core::fault::Fault;
 use cube_core::layout::{Layout, RawOrder};
+use file_encoding::encode::encode_owned;
 use header_bits::header::write_header;
 use header_bits::params::Params;
 use std::alloc::Global;
@@ -51,7 +52,10 @@ pub(super) fn encoded(
     let params = params_of(rt, alloc, settings);
     assert!(rt; params.check().is_ok(), "{name}");
     let cube = Cube::from_raw(alloc, params.shape, params.kind, layout, raw).expect(rt, name);
-    encode_one(alloc, &cube, &params).expect(rt, name)
+    let file = encode_one(alloc, &cube, &params).expect(rt, name);
+    let owned = encode_owned(alloc, cube, &params).expect(rt, name);
+    same_bytes(rt, &owned, &file, name);
+    file
 }
 
 /// Returns the header of parameters.

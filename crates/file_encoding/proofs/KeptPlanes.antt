@@ -1,11 +1,11 @@
 -- Planes that are kept: the rows of all bands that are made of them, and the residuals of the last of their bands.
 use Rattle.std.proofs.Common.{◌≡◌, ◌+◌, ◌-◌, ◌*◌, ◌^◌, ◌<◌, ◌≤◌, ℕ, zero, suc, List, [], ◌∷◌, ◌++◌, length, take, drop, get_or, refl, sym, ap, ◌∙◌, subst, arith, inl, inr}
-use Rattle.std.proofs.Common.{length-append, length-drop, length-take, take_all}
+use Rattle.std.proofs.Common.{length-append, length-drop, length-take, replicate, take_all}
 use Rattle.std.specs.List.{flat_map, AllByRecursion}
 use Rattle.std.proofs.Math.Seq.{take-append_seam, drop-append_seam}
 use Rattle.std.proofs.lemmas.Bool.{cases_lt}
 use Rattle.std.proofs.lemmas.List.{get_or_append_left, get_or-append_right, get_or-take, get_or-drop, drop-append-le}
-use Rattle.std.proofs.lemmas.Nat.{mul-le}
+use Rattle.std.proofs.lemmas.Nat.{mul-le, pow_pos}
 use borrow.Rule.Slice.PartMut.{put_mid, post_of, same_len_mid}
 use Rattle.cube_core.specs.Shape.{Sizes}
 use Rattle.cube_core.specs.Kind.{SampleKind, sample_of}
@@ -13,7 +13,7 @@ use Rattle.cube_core.specs.Image.{Image, IsPlace, sample_at}
 use Rattle.cube_core.specs.Order.{upto}
 use Rattle.header_bits.specs.declared.params.Params.{Params}
 use Rattle.header_bits.specs.Lawful.{IsLawful}
-use Rattle.header_bits.proofs.Items.{all_append, all_drop, all_take}
+use Rattle.header_bits.proofs.Items.{all_append, all_drop, all_replicate, all_take}
 use Rattle.sample_prediction.specs.HandedRows.{AreLastRows, image_of_rows, index_by_rows, row_size}
 use Rattle.sample_prediction.proofs.HandedRows.{sample_by_rows}
 use Rattle.predict_core.specs.Following.{PredictorState}
@@ -40,6 +40,9 @@ each_of P (z ∷ zs) h zero lt = h.0
 each_of P (z ∷ zs) h (suc i) lt = each_of P zs h.1 i (omega (arith, lt))
 
 -- ---- a row of all bands is made of the rows of planes
+
+pub zero_row : (p : Params) (row : List ℕ) (n : ℕ) → row ≡ replicate n 0 → length row ≡ row_size p.shape → IsRow p row
+zero_row p row n is size = record { size = size; range = rw is (all_replicate (λ v. v < 2 ^ p.kind.bits) n 0 (pow_pos p.kind.bits)) }
 
 module _ (columns i first many : ℕ) (row line : List ℕ) (start : first ≡ i * columns) (fits : i * columns + columns ≤ length row) (long : length line ≡ columns)
     (size : many ≡ columns) where

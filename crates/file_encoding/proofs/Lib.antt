@@ -7,6 +7,7 @@ pub mod Encoding
 pub mod Endings
 pub mod FoundRows
 pub mod Groups
+pub mod InPlace
 pub mod KeptPlanes
 pub mod KeptRows
 pub mod LineSteps

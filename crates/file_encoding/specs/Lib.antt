@@ -5,6 +5,7 @@ pub mod Coding
 pub mod CodingLaws
 pub mod Codings
 pub mod Ends
+pub mod InPlace
 pub mod Own
 pub mod Pieces
 pub mod Takings

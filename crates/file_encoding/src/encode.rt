@@ -1,15 +1,25 @@
 //! Encoding on one thread.
 
-ghost use Rattle.std.specs.Prelude.{◌≡◌, IfOk, IfErr};
+ghost use Rattle.std.specs.Prelude.{◌≡◌, IsTrue, IfOk, IfErr, OnOk};
+ghost use Rattle.cube_core.specs.Image.{Image, IsCube};
+ghost use Rattle.cube_core.specs.Order.{upto};
 ghost use Rattle.cube_core.specs.declared.fault.Fault.TheVariants.{WantOfMemory};
+ghost use Rattle.cube_core.specs.declared.order.Order.TheVariants.{Bsq};
 ghost use Rattle.header_bits.specs.Lawful.{IsLawful};
+ghost use Rattle.file_encoding.specs.InPlace.{AreTurned};
+ghost use Rattle.file_encoding.specs.Walks.{IsSeen, AreAt, bands_of};
 ghost use Rattle.file_format.specs.File.{file_of};
 
 use crate::file_encoder::FileEncoder;
+use crate::in_place::turn_cube;
+use crate::offsets::send_offsets;
+use crate::pieces::GROUP;
 use crate::walk::{planes_room, send_own};
 use cube_core::cube::Cube;
 use cube_core::fault::Fault;
+use cube_core::order::Order;
 use header_bits::params::Params;
+use predict_core::band::Band;
 use predict_core::bands::all_bands;
 use std::alloc::Global;
 
@@ -31,4 +41,79 @@ pub fn encode_one(alloc: Global, cube: &Cube, params: &Params) -> Result<Vec<u8>
         return Err(Fault::WantOfMemory);
     }
     end.finish()
+}
+
+/// Returns the file of a cube, as `encode_one` does, and takes the cube.
+///
+/// In band-sequential order the residuals take the place of the samples, where that needs less room than planes of residuals do.
+/// Returns `WantOfMemory` if the output, the rows that are kept, or the state of the predictors or of the coder can't be allocated.
+pub fn encode_owned(alloc: Global, cube: Cube, params: &Params) -> Result<Vec<u8>, Fault>
+    requires lawful { IsLawful params.now }
+    requires shape { cube.shape ≡ params.now.shape }
+    requires kind { cube.kind ≡ params.now.kind }
+    ensures file { IfOk result (λ bytes. bytes.items ≡ file_of cube params.now) }
+    ensures refused { IfErr result (λ e. e ≡ WantOfMemory) }
+{
+    if needs_less_in_place(params) {
+        encode_in_place(alloc, cube, params)
+    } else {
+        encode_one(alloc, &cube, params)
+    }
+}
+
+/// Returns whether the order is by band, and the rows that `turn` keeps are fewer samples than the planes of residuals that
+/// `encode_one` keeps.
+fn needs_less_in_place(params: &Params) -> bool
+    ensures { IsTrue result → params.now.order ≡ Bsq }
+{
+    let shape = params.shape;
+    let bands = u64::from(shape.bands());
+    let lines = 2 * bands + GROUP as u64;
+    let planes = bands.min(14) / 2;
+    match params.order {
+        Order::Bsq => lines < planes * u64::from(shape.rows()),
+        Order::Bi(_) => false,
+    }
+}
+
+/// `encode_owned` in band-sequential order, in place.
+fn encode_in_place(alloc: Global, cube: Cube, params: &Params) -> Result<Vec<u8>, Fault>
+    requires lawful { IsLawful params.now }
+    requires order { params.now.order ≡ Bsq }
+    requires shape { cube.shape ≡ params.now.shape }
+    requires kind { cube.kind ≡ params.now.kind }
+    ensures file { IfOk result (λ bytes. bytes.items ≡ file_of cube params.now) }
+    ensures refused { IfErr result (λ e. e ≡ WantOfMemory) }
+{
+    cube.prove_is_cube();
+    let mut cube = cube;
+    let mut bands = all_bands(alloc, params)?;
+    let mut end = FileEncoder::new(alloc, params)?;
+    turn(alloc, &mut cube, params, &mut bands)?;
+    if !send_offsets(&cube, &mut end) {
+        return Err(Fault::WantOfMemory);
+    }
+    end.finish()
+}
+
+/// Replaces each sample of a cube by its mapped residual, as an offset from the least sample.
+///
+/// Returns `WantOfMemory` if the rows that are kept can't be allocated.
+fn turn(alloc: Global, cube: &mut Cube, params: &Params, bands: &mut [Band]) -> Result<(), Fault>
+    requires lawful { IsLawful params.now }
+    requires order { params.now.order ≡ Bsq }
+    requires cube { IsCube cube.old }
+    requires image { IsSeen params.now cube.old }
+    requires own { bands_of bands.old ≡ upto params.now.shape.bands }
+    requires fresh { (c : Image) → AreAt params.now c 0 bands.old }
+    ensures turned { OnOk result (AreTurned params.now cube.old cube.new params.now.shape.rows) }
+    ensures refused { IfErr result (λ e. e ≡ WantOfMemory) }
+{
+    let columns = params.shape.columns() as usize;
+    let size = params.shape.bands() as usize * columns;
+    let mut present = vec![in alloc; 0u16; size]?;
+    let mut above = vec![in alloc; 0u16; size]?;
+    let mut room = vec![in alloc; 0u16; GROUP * columns]?;
+    turn_cube(cube, params, bands, &mut present, &mut above, &mut room);
+    Ok(())
 }

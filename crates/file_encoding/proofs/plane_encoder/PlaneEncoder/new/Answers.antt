@@ -1,14 +1,9 @@
-use Rattle.std.proofs.Common.{◌≡◌, ◌*◌, ◌^◌, ◌<◌, ℕ, List, length, min, refl, ap₂, arith, rules, replicate}
-use Rattle.std.proofs.lemmas.Nat.{pow_pos}
-use Rattle.header_bits.specs.declared.params.Params.{Params}
-use Rattle.header_bits.proofs.Items.{all_replicate}
+use Rattle.std.proofs.Common.{◌≡◌, ◌*◌, length, min, refl, ap₂, arith, rules, replicate}
 use Rattle.sample_prediction.specs.HandedRows.{row_size}
 use Rattle.file_encoding.specs.ByPlanes.{IsRow, most_at_once, most_kept, plane_size}
+use Rattle.file_encoding.proofs.KeptPlanes.{zero_row}
 use Rattle.file_encoding.proofs.PlaneRows.{start_planes}
 use Rattle.file_encoding.proofs.plane_encoder.PlaneEncoder.new.Goals as goal
-
-zeros : (p : Params) (row : List ℕ) (n : ℕ) → row ≡ replicate n 0 → length row ≡ row_size p.shape → IsRow p row
-zeros p row n is size = record { size = size; range = rw is (all_replicate (λ v. v < 2 ^ p.kind.bits) n 0 (pow_pos p.kind.bits)) }
 
 pub returns-clause-under_way : goal.returns-clause-under_way
 returns-clause-under_way c =
@@ -28,7 +23,7 @@ returns-clause-under_way c =
     let above_zeros : c.in_ok-above.above.items ≡ replicate (c.bands-all.result * c.columns.result) 0 = search (rules, c.in_ok-above.ensures.items_if_clones_equal) in
     let present_long : length c.in_ok-present.present.items ≡ row_size p.shape = omega (arith, row_long, c.in_ok-present.ensures.len, c.in_ok-present.present.ok.0) in
     let above_long : length c.in_ok-above.above.items ≡ row_size p.shape = omega (arith, row_long, c.in_ok-above.ensures.len, c.in_ok-above.above.ok.0) in
-    let present : IsRow p c.in_ok-present.present.items = zeros p c.in_ok-present.present.items (c.bands-all.result * c.columns.result) present_zeros present_long in
-    let above : IsRow p c.in_ok-above.above.items = zeros p c.in_ok-above.above.items (c.bands-all.result * c.columns.result) above_zeros above_long in
+    let present : IsRow p c.in_ok-present.present.items = zero_row p c.in_ok-present.present.items (c.bands-all.result * c.columns.result) present_zeros present_long in
+    let above : IsRow p c.in_ok-above.above.items = zero_row p c.in_ok-above.above.items (c.bands-all.result * c.columns.result) above_zeros above_long in
     start_planes _ _ c.requires.lawful c.requires.order refl c.none.ensures refl kept present above (omega (arith, room)) (omega (arith, made.len, c.in_ok-bands.bands.ok.0))
     made.along made.first c.in_ok-end.ensures.coded
