@@ -13,7 +13,7 @@ use crate::rooms::put_bytes;
 use cube_core::cube::Cube;
 use cube_core::fault::Fault;
 use cube_core::layout::Layout;
-use file_encoding::encode::encode_one;
+use file_encoding::encode::encode_owned;
 use header_bits::params::Params;
 use std::alloc::Global;
 
@@ -86,5 +86,5 @@ fn file_of_raw(alloc: Global, params: &Params, layout: Layout, raw: &[u8]) -> Re
     ensures refused { IfErr result (IsRawRefusal params.now layout raw.now) }
 {
     let cube = Cube::from_raw(alloc, params.shape, params.kind, layout, raw)?;
-    encode_one(alloc, &cube, params)
+    encode_owned(alloc, cube, params)
 }

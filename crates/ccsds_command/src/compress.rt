@@ -10,13 +10,13 @@ ghost use Rattle.command_devices.specs.Reading.{ToldAsRead};
 ghost use Rattle.command_devices.specs.Writing.{IsWrite};
 
 use crate::by_rows::{file_by_rows, goes_by_rows};
-use coder_pipe::encode::encode_one;
 use command_devices::sink::Sink;
 use command_devices::source::Source;
 use command_devices::writing::write_all;
 use command_words::settings::CompressSettings;
 use cube_core::cube::Cube;
 use cube_core::fault::Fault;
+use file_encoding::encode::encode_owned;
 use raw_streams::read::read_raw;
 use std::alloc::Global;
 
@@ -69,7 +69,7 @@ fn file_of_source<S: Source>(
         return file_by_rows(alloc, source, settings);
     }
     let cube = read_cube(alloc, source, settings)?;
-    encode_one(alloc, &cube, &settings.params)
+    encode_owned(alloc, cube, &settings.params)
 }
 
 /// Reads the cube whose raw bytes the source has.
