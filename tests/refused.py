@@ -86,12 +86,18 @@ class Room(Workroom):
 SIZES = ["--columns", 40, "--rows", 9, "--bands", 6, "--bits", 12]
 # The same raw bytes as a scene of enough bands to be coded row by row in band sequential order: twice the 19 planes that are kept, or more.
 MANY = ["--columns", 6, "--rows", 8, "--bands", 45, "--bits", 12]
+# The same raw bytes as a scene of enough rows for residuals to take the samples' place, and as one of so few that planes of residuals are kept instead.
+HIGH = ["--columns", 24, "--rows", 18, "--bands", 5, "--bits", 12]
+FLAT = ["--columns", 60, "--rows", 4, "--bands", 9, "--bits", 12]
 BLOCKS = ["--coder", "block", "--block", 8, "--reference", 4]
 
 # The words of each command, and the lines that it may print on standard error when an allocation is refused, apart from none.
 COMMANDS = {
     "compress, sample-adaptive": (["compress", *SIZES, "scene.raw", "out"], [MEMORY]),
     "compress, block-adaptive": (["compress", *SIZES, *BLOCKS, "--order", "bi", "--depth", 2, "scene.raw", "out"], [MEMORY]),
+    "compress, in place": (["compress", *HIGH, "scene.raw", "out"], [MEMORY]),
+    "compress, in place, block-adaptive": (["compress", *HIGH, *BLOCKS, "scene.raw", "out"], [MEMORY]),
+    "compress, by planes of residuals": (["compress", *FLAT, "scene.raw", "out"], [MEMORY]),
     "compress, row by row": (["compress", *SIZES, "--layout", "bil", "--order", "bi", "scene.raw", "out"], [MEMORY]),
     "compress, row by row, block-adaptive": (
         ["compress", *SIZES, *BLOCKS, "--layout", "bip", "--order", "bi", "--depth", 6, "scene.raw", "out"],

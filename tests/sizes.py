@@ -18,8 +18,8 @@ from harness import PROGRAM, USUAL, Room, header, inspected
 
 CODERS = ("sample", "block")
 
-# Columns, rows and bands.
-LONG = [(65_536, 3, 1), (3, 65_536, 1), (3, 1, 65_536), (65_536, 1, 2), (2, 65_536, 2), (1, 2, 65_536)]
+# Columns, rows and bands. In the last, and in that of two columns, there are enough rows for residuals to take the samples' place band after band.
+LONG = [(65_536, 3, 1), (3, 65_536, 1), (3, 1, 65_536), (65_536, 1, 2), (2, 65_536, 2), (1, 2, 65_536), (65_536, 13, 2)]
 # Each order with the fewest bands that it needs and its options. In the last, the places of a row aren't consecutive.
 ORDERS = {"by bands": (1, ["--order", "bsq"]), "by lines": (1, ["--order", "bi", "--depth", 1]), "by pairs": (2, ["--order", "bi", "--depth", 2])}
 
@@ -107,6 +107,20 @@ def no_second_copy(room):
             room.expect(f"{name}, expanded to its bytes", room.read("back") == raw, True)
 
 
+def a_third(room, name, shape, layout, order, times):
+    """Checks that a scene of which the file has a third is compressed in so many times its raw bytes of memory, and expanded again."""
+    count = shape[0] * shape[1] * shape[2]
+    noise = random.Random(16).randbytes(count).translate(bytes(i % 20 for i in range(256)))
+    raw = bytearray(2 * count)
+    raw[1::2] = noise
+    room.write("raw", raw)
+    words = [*sizes_of(shape, 2, "sample"), "--layout", layout, "--order", *order]
+    room.expect(name, room.run("compress", *words, "raw", "file", limit=int(times * len(raw)) + (8 << 20)), (0, b"", ""))
+    room.expect(f"{name}: a third", 0.3 < len(room.read("file")) / len(raw) < 0.34, True)
+    room.expect(f"{name}, expanded", room.run("expand", "--layout", layout, "file", "back"), (0, b"", ""))
+    room.expect(f"{name}, expanded to its bytes", room.read("back") == raw, True)
+
+
 def by_rows(room):
     """Checks that `compress` holds the file and little else where raw bytes come as they are coded: at most 0.45 of the raw bytes.
 
@@ -117,16 +131,23 @@ def by_rows(room):
         ((1_024, 2_048, 24), "bip", ["bi", "--depth", 24]),
         ((1_024, 128, 400), "bsq", ["bsq"]),
     ):
-        name, count = f"{shape} by {layout}, row by row", shape[0] * shape[1] * shape[2]
-        noise = random.Random(16).randbytes(count).translate(bytes(i % 20 for i in range(256)))
-        raw = bytearray(2 * count)
-        raw[1::2] = noise
-        room.write("raw", bytes(raw))
-        words = [*sizes_of(shape, 2, "sample"), "--layout", layout, "--order", *order]
-        room.expect(name, room.run("compress", *words, "raw", "file", limit=int(0.45 * len(raw)) + (8 << 20)), (0, b"", ""))
-        room.expect(f"{name}: a third", 0.3 < len(room.read("file")) / len(raw) < 0.34, True)
-        room.expect(f"{name}, expanded", room.run("expand", "--layout", layout, "file", "back"), (0, b"", ""))
-        room.expect(f"{name}, expanded to its bytes", room.read("back") == bytes(raw), True)
+        a_third(room, f"{shape} by {layout}, row by row", shape, layout, order, 0.45)
+
+
+def in_place(room):
+    """Checks that band after band `compress` holds the samples and the file, and no planes of residuals beside them: 1.35 times the raw bytes are enough.
+
+    None of the scenes is coded while it is read: raw bytes interleave the bands, or there are too few of these, in the first scene by one. A file has
+    0.31 of the raw bytes, and its memory at most an eighth more. An encoder that keeps planes, of half of the bands and at most seven, does without them
+    where they can't be had; so each limit has room for them, but not for the file, too. The last limit is the bound that holds of every scene."""
+    for shape, layout, times in (
+        ((1_024, 1_408, 37), "bsq", 1.35),
+        ((1_024, 1_024, 64), "bil", 1.35),
+        ((1_024, 3_072, 16), "bip", 1.44),
+        ((1_024, 6_144, 8), "bsq", 1.5),
+        ((1_024, 6_144, 8), "bsq", 1.45),
+    ):
+        a_third(room, f"{shape} by {layout}, in place in {times} times its bytes", shape, layout, ["bsq"], times)
 
 
 def great_scene(room, gigabytes):
@@ -255,7 +276,7 @@ def great_tables(room):
 def main():
     with tempfile.TemporaryDirectory() as folder:
         room = Room(folder, sys.argv[1] if len(sys.argv) > 1 else PROGRAM)
-        for part in (long_sides, many_samples, no_second_copy, by_rows, no_spare_bytes, great_refusals, most_samples, great_show, great_tables):
+        for part in (long_sides, many_samples, no_second_copy, by_rows, in_place, no_spare_bytes, great_refusals, most_samples, great_show, great_tables):
             part(room)
         if "GIGABYTES" in os.environ:
             great_scene(room, int(os.environ["GIGABYTES"]))
