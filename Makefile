@@ -39,7 +39,9 @@ install-library: lib
 # predictors in threads, with each of its memory allocations, reads and writes refused, and on damaged files; and one checks
 # that each proved promise has its edits. The scripts run in parallel, and the output of each is printed when it ends.
 test:
+	@tools/proved.py before
 	RT_JOBS=$(LANES) rt ci
+	@tools/proved.py after
 	@$(MAKE) --no-print-directory lib
 	@$(MAKE) --no-print-directory --jobs="$$(nproc)" --output-sync $(SCRIPTS)
 

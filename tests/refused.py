@@ -5,8 +5,8 @@
 
 `tests/refuse.c`, which this script compiles with `cc`, is loaded before the program. It refuses the first allocation, then the second,
 and so on, until a run makes no such call. Each run with a refusal either ends with status 3 and writes nothing, and its line
-reports lack of memory or a refused thread (without memory for the line there is none); or it does without the memory, and its output is
-that of an undisturbed run.
+reports lack of memory or a refused thread (without memory for the line there is none); or it does without the memory: then its output is
+that of an undisturbed run, and it asked for no more than that, as a run would that hides a refusal and asks again.
 
 Reads and writes are refused in the same way, and are split into pieces. A refused read ends with `Read` and nothing written, and a
 refused write with `Write` and the bytes that were written before it. Pieces as small as a byte change nothing. Then come files that
@@ -125,12 +125,33 @@ def make(room):
         room.expect(f"making {name}", (status, line) == (DONE, b""), (status, line))
 
 
+def all_asked(room, words, refuse, runs, program):
+    """Returns how many allocations a program asks for in each of so many runs: which of its threads goes first may decide about one or
+    two."""
+    counts = []
+    for _ in range(runs):
+        room.run(words, refuse=refuse, program=program)
+        room.met()
+        counts.append(room.asked())
+    return counts
+
+
+def asks_no_more(room, words, nth, asked, program):
+    """Returns whether a program asks for no more allocations where the one with this number is refused: a middle run of few, or, where
+    chance decides about that, many runs in the mean. One that hides a refusal asks for one more in each run."""
+    if statistics.median(all_asked(room, words, nth, 5, program)) <= asked:
+        return True
+    refused, undisturbed = (statistics.mean(all_asked(room, words, it, 30, program)) for it in (nth, 0))
+    return refused < undisturbed + 0.6
+
+
 def each_growth(room, name, words, lines):
     """Refuses the first allocation, then the second, and so on, until a run makes no such call.
 
     Returns the number of allocations, and the number of those whose refusal is reported as that of a thread. A thread is reported where
     threads are started, and nowhere else: before and after that, lack of memory is reported."""
     wanted, said, threads = room.run(words), [], 0
+    asked = statistics.median(all_asked(room, words, 0, 5, PROGRAM))
     room.expect(name, wanted[:2] == (DONE, b"") and wanted[2], wanted)
     for nth in range(1, MOST):
         found = room.run(words, refuse=nth)
@@ -144,7 +165,8 @@ def each_growth(room, name, words, lines):
         if status == REFUSED and line and said[-1:] != [line]:
             said.append(line)
         # The program can do without memory that only makes it faster.
-        room.expect(f"{name}: call {nth} refused", refused or found == wanted, found)
+        needless = found == wanted and asks_no_more(room, words, nth, asked, PROGRAM)
+        room.expect(f"{name}: call {nth} refused", refused or needless, found)
     room.expect(f"{name}: more than {MOST} growths", False, None)
     return MOST, threads
 
@@ -231,30 +253,11 @@ NAMED = {b"write_header", b"read_header", b"BitWriter::reserve", b"lane", b"Weav
 EVERYTHING = {b"everything"}
 
 
-def all_asked(room, word, refuse, runs):
-    """Returns how many allocations `refused_allocations WORD` asks for in each of so many runs: which of its threads goes first may decide
-    about one or two."""
-    counts = []
-    for _ in range(runs):
-        room.run([word], refuse=refuse, program=CALLS)
-        room.met()
-        counts.append(room.asked())
-    return counts
-
-
-def asks_no_more(room, word, nth, asked):
-    """Returns whether the program asks for no more allocations where the one with this number is refused: a middle run of few, or, where
-    chance decides about that, many runs in the mean. One that hides a refusal asks for one more in each run."""
-    if statistics.median(all_asked(room, word, nth, 5)) <= asked:
-        return True
-    return statistics.mean(all_asked(room, word, nth, 30)) < statistics.mean(all_asked(room, word, 0, 30)) + 0.6
-
-
 def each_call(room, word):
     """Refuses each allocation of `refused_allocations WORD` in turn. Returns the lines of an undisturbed run, the number of runs in
     which a refused library call is repeated, and the names of those calls."""
     status, _, wanted = room.run([word], refuse=0, program=CALLS)
-    asked = statistics.median(all_asked(room, word, 0, 5))
+    asked = statistics.median(all_asked(room, [word], 0, 5, CALLS))
     lines, last = wanted.rsplit(b"made again: ", 1)
     room.expect(f"calls, {word}", (status, last) == (DONE, b"0\n"), wanted)
     again, names, unmet = 0, set(), 0
@@ -272,7 +275,7 @@ def each_call(room, word):
         early = found[0] != DONE and found[2] == b""
         repeated = found[2].startswith(lines + b"made again: 1\n")
         # A program that does without memory asks for no more than before; one that hides a refusal has to ask again.
-        needless = found[2] == wanted and asks_no_more(room, word, nth, asked)
+        needless = found[2] == wanted and asks_no_more(room, [word], nth, asked, CALLS)
         room.expect(f"calls, {word}: call {nth} refused", early or repeated or needless, (found, asked))
         called = set(found[2].splitlines()[lines.count(b"\n") + 1 :]) if repeated else set()
         again += repeated and called != EVERYTHING
