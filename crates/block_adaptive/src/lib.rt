@@ -3,6 +3,7 @@
 
 mod ahead;
 pub mod block_reader;
+mod block_values;
 pub mod block_writer;
 pub mod choice;
 mod data_set_kind;

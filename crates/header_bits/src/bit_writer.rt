@@ -1,23 +1,17 @@
 //! Writing bits to the end of growing bytes.
 
-ghost use Rattle.std.specs.Prelude.{◌≡◌, ◌+◌, ◌-◌, ◌*◌, ◌/◌, ◌%◌, ◌^◌, ◌<◌, ◌≤◌, ◌++◌, [], length, max, min, vec_len, vec_capacity, IsOk, IsTrue, IfErr, OnOk};
+ghost use Rattle.std.specs.Prelude.{◌≡◌, ◌+◌, ◌-◌, ◌*◌, ◌%◌, ◌^◌, ◌<◌, ◌≤◌, ◌++◌, [], length, max, min, vec_len, vec_capacity, IsOk, IsTrue, IfErr, OnOk};
 ghost use Rattle.std.specs.Prelude.{OnErr};
 ghost use Rattle.cube_core.specs.declared.fault.Fault.TheVariants.{WantOfMemory};
 ghost use Rattle.header_bits.specs.Bits.{bits_of, bits_of_bytes};
 
-use core::mem::replace_with;
+use crate::written_bytes::{append_part, append_word, grow, ready_after};
 use cube_core::fault::Fault;
-use std::alloc::{AllocError, Global};
+use std::alloc::Global;
 use std::marker::Model;
 
 /// The greatest number of bits that a writer holds.
 const MOST_BITS: u64 = 1 << 63;
-
-/// Below this number of bytes, their memory doubles as it grows.
-const DOUBLED: usize = 1 << 24;
-
-/// A number of bytes that leaves two words below `MOST_BITS`.
-const ROOMY: usize = 1 << 59;
 
 /// A writer that appends bits one number after another, the most significant bit of each first.
 ///
@@ -209,47 +203,6 @@ impl BitWriter {
     }
 }
 
-/// Reserves room for `more` more bytes. Where there is less, it reserves for at least a step's, so that bytes that grow
-/// bit by bit are seldom moved.
-fn grow(bytes: &mut Vec<u8>, more: usize) -> Result<(), AllocError>
-    ensures items { bytes.new.items ≡ bytes.old.items }
-    ensures len { vec_len bytes.new ≡ vec_len bytes.old }
-    ensures kept { vec_capacity bytes.old ≤ vec_capacity bytes.new }
-    ensures room { OnOk result (vec_len bytes.new + more ≤ vec_capacity bytes.new) }
-    ensures bounded { vec_capacity bytes.new ≤ max (vec_capacity bytes.old) (vec_len bytes.old + max more (vec_len bytes.old)) }
-    ensures still { vec_len bytes.old + more ≤ vec_capacity bytes.old → vec_capacity bytes.new ≡ vec_capacity bytes.old }
-    ensures failed { OnErr result (vec_capacity bytes.new ≡ vec_capacity bytes.old) }
-    ensures within { vec_len bytes.old + more ≤ vec_capacity bytes.old → IsOk result }
-{
-    let len = bytes.len();
-    if more <= bytes.capacity() - len {
-        return Ok(());
-    }
-    bytes.reserve_exact(more.max(step_after(len)))
-}
-
-/// Returns by how many bytes the memory for `len` bytes grows: as many again, or an eighth of them where they are a large part
-/// of a scene.
-fn step_after(len: usize) -> usize
-    ensures { result ≤ len }
-{
-    if len < DOUBLED { len } else { len / 8 }
-}
-
-/// Returns 64 where there is memory for two words after these bytes, and 0 where there may be less.
-fn ready_after(bytes: &Vec<u8>) -> u32
-    ensures most { result ≤ 64 }
-    ensures room { 8 * vec_len bytes.now + 2 * result ≤ 8 * vec_capacity bytes.now }
-    ensures within { 0 < result → 8 * vec_len bytes.now + 2 * result ≤ 2 ^ 63 }
-{
-    let len = bytes.len();
-    if len < ROOMY && bytes.capacity() - len >= 16 {
-        64
-    } else {
-        0
-    }
-}
-
 /// Returns the word of 64 bits that consists of the `held` lowest bits of `part` and the bits that fill it.
 ///
 /// `held` is below 64, and `bits` below 2^(64 - `held`). The other bits of `part` don't matter.
@@ -263,51 +216,5 @@ pub fn filled_word(part: u64, held: u32, bits: u64) -> u64
         bits
     } else {
         (part << (64 - held)) | bits
-    }
-}
-
-/// Appends a word, for which there is room.
-#[inline(always)]
-fn append_word(bytes: &mut Vec<u8>, word: u64)
-    requires room { vec_len bytes.old + 8 ≤ vec_capacity bytes.old }
-    ensures bits { bits_of_bytes bytes.new.items ≡ bits_of_bytes bytes.old.items ++ bits_of 64 word }
-    ensures len { vec_len bytes.new ≡ vec_len bytes.old + 8 }
-    ensures capacity { vec_capacity bytes.new ≡ vec_capacity bytes.old }
-{
-    replace_with(bytes, word, with_word);
-}
-
-/// Returns bytes with a word after them, for which there is room.
-///
-/// They are passed by value, so that their address and length stay in registers and all eight bytes are stored at once. A call that may
-/// grow them would keep a writer out of registers.
-#[inline(always)]
-fn with_word(bytes: Vec<u8>, word: u64) -> (Vec<u8>, ())
-    requires room { vec_len bytes + 8 ≤ vec_capacity bytes }
-    ensures bits { bits_of_bytes result.0.items ≡ bits_of_bytes bytes.items ++ bits_of 64 word }
-    ensures len { vec_len result.0 ≡ vec_len bytes + 8 }
-    ensures capacity { vec_capacity result.0 ≡ vec_capacity bytes }
-{
-    let mut bytes = bytes;
-    let eight = word.to_be_bytes();
-    for i in 0..eight.len() {
-        bytes.push_reserved(eight[i]);
-    }
-    (bytes, ())
-}
-
-/// Appends the `held` lowest bits of a part, which are whole bytes and for which there is room.
-fn append_part(bytes: &mut Vec<u8>, part: u64, held: u32)
-    requires held { held < 64 }
-    requires whole { held % 8 ≡ 0 }
-    requires room { 8 * vec_len bytes.old + held ≤ 8 * vec_capacity bytes.old }
-    ensures bits { bits_of_bytes bytes.new.items ≡ bits_of_bytes bytes.old.items ++ bits_of held part }
-    ensures capacity { vec_capacity bytes.new ≡ vec_capacity bytes.old }
-{
-    if held > 0 {
-        let word = (part << (64 - held)).to_be_bytes();
-        for i in 0..(held / 8) as usize {
-            bytes.push_reserved(word[i]);
-        }
     }
 }

@@ -19,3 +19,4 @@ mod table_layout;
 pub mod tables;
 mod weight_part;
 pub mod worked;
+mod written_bytes;

@@ -1,4 +1,4 @@
-use Rattle.std.proofs.Common.{◌≡◌, ◌≤◌, ◌+◌, ◌*◌, ◌^◌, arith}
+use Rattle.std.proofs.Common.{◌≡◌, ◌≤◌, ◌+◌, arith}
 use Rattle.block_adaptive.proofs.Powers.{near_falls, near_rises}
 use Rattle.block_adaptive.proofs.choice.first_split.Goals as goal
 

@@ -1,5 +1,5 @@
 use Rattle.std.proofs.Common.{◌≡◌, ◌+◌, ◌*◌, arith, refl}
-use Rattle.cube_core.proofs.Parts.{write_on, piece_fits}
+use Rattle.cube_core.proofs.WrittenParts.{write_on, piece_fits}
 use Rattle.cube_core.proofs.raw_write.write_lines.Goals as goal
 use Rattle.cube_core.proofs.raw_write.write_lines.Goals.{then-z-bands, else-z-bands}
 

@@ -1,6 +1,7 @@
 use Rattle.std.proofs.Common.{◌≡◌, ◌+◌, ◌*◌, arith, refl}
 use Rattle.cube_core.proofs.Words.{Place, IsWrittenAt}
-use Rattle.cube_core.proofs.Parts.{written_there, band_more, block_ends, block_begins, piece_fits}
+use Rattle.cube_core.proofs.Parts.{band_more, block_ends, block_begins}
+use Rattle.cube_core.proofs.WrittenParts.{written_there, piece_fits}
 use Rattle.cube_core.proofs.Raws.{lawful_order}
 use Rattle.cube_core.proofs.raw_write.write_pixels.Goals as goal
 

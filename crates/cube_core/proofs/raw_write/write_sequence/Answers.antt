@@ -1,5 +1,5 @@
 use Rattle.std.proofs.Common.{◌≡◌, ◌+◌, ◌*◌, arith}
-use Rattle.cube_core.proofs.Parts.{write_on, write_none, piece_fits}
+use Rattle.cube_core.proofs.WrittenParts.{write_on, write_none, piece_fits}
 use Rattle.cube_core.proofs.raw_write.write_sequence.Goals as goal
 
 pub returns-clause-written : goal.returns-clause-written

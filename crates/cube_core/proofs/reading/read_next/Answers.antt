@@ -1,5 +1,5 @@
-use Rattle.std.proofs.Common.{◌≡◌, ◌+◌, arith, refl, length-append, Ok, Err}
-use Rattle.cube_core.proofs.Words.{IsFound, Image, Sizes, first_sample, part_samples}
+use Rattle.std.proofs.Common.{◌≡◌, arith, refl, length-append, Ok, Err}
+use Rattle.cube_core.proofs.Words.{IsFound, first_sample, part_samples}
 use Rattle.cube_core.proofs.PartBytes.{found_more, bad_stays}
 use Rattle.cube_core.proofs.reading.read_next.Goals as goal
 

@@ -1,4 +1,4 @@
-use Rattle.std.proofs.Common.{◌≡◌, refl, arith}
+use Rattle.std.proofs.Common.{refl, arith}
 use Rattle.std.proofs.lemmas.List.{with_items_is}
 use Rattle.cube_core.proofs.Runs.{run_offsets, run_set}
 use Rattle.cube_core.proofs.cube.Cube.set_run.Goals as goal

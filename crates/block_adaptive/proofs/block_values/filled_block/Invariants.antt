@@ -1,5 +1,5 @@
 use Rattle.std.proofs.Common.{◌≡◌, ℕ, ◌-◌, ◌≤◌, ◌++◌, take, length}
-use Rattle.block_adaptive.proofs.block_writer.filled_block.Given as goal
+use Rattle.block_adaptive.proofs.block_values.filled_block.Given as goal
 use Rattle.header_bits.specs.Examples.{zeros}
 
 abbrev pub invariant-loop-i : goal.invariant-loop-i

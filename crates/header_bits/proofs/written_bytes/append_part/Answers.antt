@@ -3,7 +3,7 @@ use Rattle.header_bits.specs.Bits.{bits_of_bytes}
 use Rattle.header_bits.proofs.Bytes.{bits_of_bytes-append}
 use Rattle.header_bits.proofs.Words.{part_shifted}
 use Rattle.header_bits.proofs.Pushes.{nothing_after}
-use Rattle.header_bits.proofs.bit_writer.append_part.Goals as goal
+use Rattle.header_bits.proofs.written_bytes.append_part.Goals as goal
 
 pub returns-after-loop-i-clause-bits : goal.returns-after-loop-i-clause-bits
 returns-after-loop-i-clause-bits c =

@@ -1,6 +1,6 @@
 use Rattle.std.proofs.lemmas.Grind.{common_steps}
 use Rattle.std.proofs.Common.{arith}
-use Rattle.block_adaptive.proofs.block_writer.sum_of_eights.Goals as goal
+use Rattle.block_adaptive.proofs.block_values.sum_of_eights.Goals as goal
 use Rattle.block_adaptive.proofs.ListSums.{sum_small, sum_front, sum_next}
 
 pub overflow_add-total : goal.overflow_add-total

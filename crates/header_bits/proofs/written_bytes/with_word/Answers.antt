@@ -3,7 +3,7 @@ use Rattle.std.proofs.lemmas.List.{take_all}
 use Rattle.header_bits.specs.Bits.{bits_of_bytes}
 use Rattle.header_bits.proofs.Bytes.{bits_of_bytes-append}
 use Rattle.header_bits.proofs.Words.{bits_of_word}
-use Rattle.header_bits.proofs.bit_writer.with_word.Goals as goal
+use Rattle.header_bits.proofs.written_bytes.with_word.Goals as goal
 
 pub returns-clause-bits : goal.returns-clause-bits
 returns-clause-bits c =
