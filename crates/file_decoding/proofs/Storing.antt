@@ -6,7 +6,7 @@ use Rattle.std.proofs.lemmas.Int.{ints}
 use Rattle.cube_core.specs.Kind.{SampleKind, smin, sample_of}
 use Rattle.cube_core.specs.Image.{Image, IsPlace, sample_at}
 use Rattle.cube_core.specs.Runs.{IsRunSet}
-use Rattle.predict_core.specs.Inversion.{number_at}
+use Rattle.predict_core.specs.Offsets.{number_at}
 use Rattle.file_decoding.specs.declared.tile.Tile.{Tile}
 use Rattle.file_decoding.specs.Tiles.{HasStored}
 

@@ -22,7 +22,7 @@ use Rattle.cube_core.proofs.Lists.{map_taken, map_taken_same}
 use Rattle.header_bits.specs.declared.params.Params.{Params}
 use Rattle.header_bits.specs.Lawful.{IsLawful}
 use Rattle.sample_adaptive.proofs.Times.{number_of_place}
-use Rattle.predict_core.specs.Inversion.{number_at}
+use Rattle.predict_core.specs.Offsets.{number_at}
 use Rattle.predict_core.proofs.Walking.{all_places, gone_all, gone_by, gone_count, goes_by, next_place}
 use Rattle.predict_core.proofs.Walking.{tile_fits, tile_item}
 use Rattle.file_decoding.specs.declared.tile.Tile.{Tile}

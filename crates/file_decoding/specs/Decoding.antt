@@ -11,7 +11,7 @@ use Rattle.header_bits.specs.Bits.{Unread, bits_of_bytes}
 use Rattle.header_bits.specs.Header.{BeginsWithTable}
 use Rattle.header_bits.specs.Lawful.{IsLawful}
 use Rattle.predict_core.specs.Cubes.{IsCubeOf}
-use Rattle.predict_core.specs.Inversion.{number_at}
+use Rattle.predict_core.specs.Offsets.{number_at}
 use Rattle.sample_prediction.specs.Residual.{residuals}
 use Rattle.sample_adaptive.specs.Given.{HasGiven as GivenBySamples, IsNext}
 use Rattle.block_adaptive.specs.Given.{HasGivenOf}

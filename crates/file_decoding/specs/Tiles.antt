@@ -4,7 +4,7 @@ use Rattle.cube_core.specs.Image.{Image, IsPlace, sample_at}
 use Rattle.cube_core.specs.Order.{place_index}
 use Rattle.cube_core.specs.Tiles.{IsTiled, most_bands}
 use Rattle.header_bits.specs.declared.params.Params.{Params}
-use Rattle.predict_core.specs.Inversion.{number_at}
+use Rattle.predict_core.specs.Offsets.{number_at}
 use Rattle.predict_core.specs.Precedence.{AreAlike}
 use Rattle.file_decoding.specs.declared.tile.Tile.{Tile}
 

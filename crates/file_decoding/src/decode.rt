@@ -24,8 +24,8 @@ use header_bits::bit_reader::BitReader;
 use header_bits::header::take_header;
 use header_bits::params::Params;
 use predict_core::bands::all_bands;
-use predict_core::inversion::invert;
 use std::alloc::Global;
+use wave_inversion::inversion::invert;
 
 /// Returns the parameters and the cube of a file of at most 2^60 bytes.
 ///

@@ -24,7 +24,7 @@ use Rattle.sample_prediction.specs.HandedRows.{image_of_rows, index_by_rows, row
 use Rattle.sample_prediction.specs.Residual.{residuals}
 use Rattle.sample_prediction.proofs.HandedRows.{image_is_cube, sample_by_rows}
 use Rattle.predict_core.specs.Following.{PredictorState}
-use Rattle.predict_core.specs.Inversion.{number_at}
+use Rattle.predict_core.specs.Offsets.{number_at}
 use Rattle.predict_core.proofs.OneCube.{residuals_inside}
 use Rattle.file_encoding.specs.ByPlanes.{IsRow}
 use Rattle.file_encoding.specs.InPlace.{AreLinesSet, AreTurned, HasLinesAt, all_offsets, offsets_of}

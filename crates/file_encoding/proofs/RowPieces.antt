@@ -17,7 +17,7 @@ use Rattle.header_bits.proofs.Items.{all_weaker}
 use Rattle.header_bits.proofs.TableWriting.{all_at}
 use Rattle.header_bits.specs.declared.params.Params.{Params}
 use Rattle.predict_core.specs.Following.{PredictorState, IsPieceNext, HoldsPiece}
-use Rattle.predict_core.specs.GroupPieces.{ArePiecesNext}
+use Rattle.group_prediction.specs.GroupPieces.{ArePiecesNext}
 use Rattle.sample_prediction.specs.Predictor.{predictor_of}
 use Rattle.sample_prediction.specs.Residual.{mapped_residual, run_residuals}
 use Rattle.file_encoding.specs.Own.{column_of}

@@ -5,7 +5,7 @@ use Rattle.cube_core.specs.Image.{Image, IsPlace, sample_at}
 use Rattle.cube_core.specs.Order.{upto}
 use Rattle.cube_core.specs.Offsets.{AreRowOffsets}
 use Rattle.header_bits.specs.declared.params.Params.{Params}
-use Rattle.predict_core.specs.Inversion.{number_at}
+use Rattle.predict_core.specs.Offsets.{number_at}
 use Rattle.file_encoding.specs.Own.{row_of}
 use Rattle.file_encoding.specs.Pieces.{row_start}
 

@@ -9,9 +9,9 @@ use crate::pieces::GROUP;
 use crate::side_by_side::{keep_row, send_first_row};
 use crate::taker::Taker;
 use cube_core::cube::Cube;
+use group_prediction::room::GroupRoom;
 use header_bits::params::Params;
 use predict_core::band::Band;
-use predict_core::group::room::GroupRoom;
 use predict_core::rows::Rows;
 
 /// Sends the residuals of some bands, band after band. Returns false if the taker has stopped.

@@ -10,9 +10,9 @@ use crate::pieces::GROUP;
 use crate::side_by_side::send_first_row;
 use crate::taker::Taker;
 use cube_core::cube::Cube;
+use group_prediction::room::GroupRoom;
 use header_bits::params::Params;
 use predict_core::band::Band;
-use predict_core::group::room::GroupRoom;
 use predict_core::rows::Rows;
 
 /// The greatest number of residuals that are kept: seven rows of 2048 columns.

@@ -9,9 +9,9 @@ ghost use Rattle.file_encoding.specs.Own.{rows_of};
 ghost use Rattle.file_encoding.specs.Walks.{IsSeen, AreAt, bands_of};
 
 use crate::side_by_side::keep_row;
+use group_prediction::room::GroupRoom;
 use header_bits::params::Params;
 use predict_core::band::Band;
-use predict_core::group::room::GroupRoom;
 use predict_core::handed::HandedRows;
 use predict_core::rows::Rows;
 use std::mem::swap;

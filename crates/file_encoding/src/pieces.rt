@@ -7,10 +7,10 @@ ghost use Rattle.file_encoding.specs.Walks.{IsSeen, AreAt, bands_of};
 ghost use Rattle.file_encoding.specs.Pieces.{ArePast, held_at, held_of};
 
 use crate::taker::Taker;
+use group_prediction::predict::predict_group;
+use group_prediction::room::GroupRoom;
 use header_bits::params::Params;
 use predict_core::band::Band;
-use predict_core::group::predict::predict_group;
-use predict_core::group::room::GroupRoom;
 use predict_core::rows::Rows;
 
 /// The greatest number of residuals of several bands that are passed on at once.

@@ -9,9 +9,9 @@ ghost use Rattle.file_encoding.specs.Walks.{IsSeen, AreAt, bands_of};
 use crate::pieces::predict_pieces;
 use crate::taker::Taker;
 use crate::walk::PIECE;
+use group_prediction::room::GroupRoom;
 use header_bits::params::Params;
 use predict_core::band::Band;
-use predict_core::group::room::GroupRoom;
 use predict_core::rows::Rows;
 
 /// Sends the residuals of the first of some bands in a row, and keeps those of the others. Returns false if the taker has

@@ -13,9 +13,9 @@ use crate::pieces::{RUN, predict_pieces, send_pieces};
 use crate::taker::Taker;
 use cube_core::cube::Cube;
 use cube_core::order::Order;
+use group_prediction::room::GroupRoom;
 use header_bits::params::Params;
 use predict_core::band::Band;
-use predict_core::group::room::GroupRoom;
 use predict_core::rows::Rows;
 use std::alloc::Global;
 

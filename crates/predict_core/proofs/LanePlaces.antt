@@ -1,6 +1,5 @@
 -- One place of a band's chain, by weights and components in lanes, which have zeros after those that are used.
-use Rattle.std.proofs.Common.{◌≡◌, ℕ, ◌+◌, ◌-◌, ◌*◌, ◌^◌, ◌<◌, ◌≤◌, ℤ, pos, ◌+ℤ◌, ◌-ℤ◌, ◌*ℤ◌, ◌≤ℤ◌, int_le, Bool, List, [], ◌∷◌, false}
-use Rattle.std.proofs.Common.{◌++◌, length, take, replicate, refl, sym, ap, ap₂, ◌∙◌, arith, pow_mono, lt_of_lt_of_le, length-append, inl, inr}
+use Rattle.std.proofs.Common.{◌≡◌, ℕ, ◌+◌, ◌-◌, ◌*◌, ◌^◌, ◌<◌, ◌≤◌, ℤ, pos, ◌+ℤ◌, ◌-ℤ◌, ◌*ℤ◌, ◌≤ℤ◌, int_le, Bool, List, [], ◌∷◌, false, ◌++◌, length, take, replicate, refl, sym, ap, ap₂, ◌∙◌, arith, pow_mono, lt_of_lt_of_le, length-append, inl, inr, zero, suc, unsigned_abs}
 use Rattle.std.proofs.lemmas.Int.{ints, clamps}
 use Rattle.std.proofs.lemmas.List.{take_all, length-replicate}
 use Rattle.cube_core.specs.Kind.{SampleKind, IsKind, smin, smid, smax}
@@ -8,7 +7,7 @@ use Rattle.cube_core.specs.Image.{Image, IsCube, IsPlace}
 use Rattle.lanes.specs.Lanes.{held}
 use Rattle.predict_core.specs.declared.settings.Settings.{Settings}
 use Rattle.predict_core.specs.Largest.{NeverWraps}
-use Rattle.predict_core.specs.WaveSteps.{IsPart}
+use Rattle.predict_core.specs.BandLanes.{IsPart, IsNarrow}
 use Rattle.sample_prediction.specs.Arithmetic.{floor_div, clip, wrapped}
 use Rattle.sample_prediction.specs.Bounds.{AllWithin}
 use Rattle.sample_prediction.specs.Chain.{scaled_by_difference}
@@ -16,7 +15,7 @@ use Rattle.sample_prediction.specs.Differences.{central_difference, difference_v
 use Rattle.sample_prediction.specs.LocalSum.{local_sum}
 use Rattle.sample_prediction.specs.Mapping.{Between}
 use Rattle.sample_prediction.specs.Prediction.{inner_product, scaled_there, next_weights}
-use Rattle.sample_prediction.specs.Weights.{step_exponent, updated_weights}
+use Rattle.sample_prediction.specs.Weights.{step_exponent, updated_weights, growth, updated_weight, weight_min, weight_max}
 use Rattle.sample_prediction.proofs.Floors.{kept, floor_low, floor_high}
 use Rattle.sample_prediction.proofs.Inner.{within_take}
 use Rattle.sample_prediction.proofs.Padding.{vector_length}
@@ -26,6 +25,8 @@ use Rattle.sample_prediction.proofs.Spans.{span}
 use Rattle.predict_core.proofs.Largest.{sum_counted}
 use Rattle.predict_core.proofs.Links.{next_by_difference}
 use Rattle.predict_core.proofs.Ranges.{sum_within}
+use Rattle.std.proofs.lemmas.Nat.{pow_pos}
+use Rattle.sample_prediction.specs.declared.predictor.Predictor.{Predictor}
 
 -- ---- the part of the products, held in 16 bits
 
@@ -54,6 +55,27 @@ unfolding updated_weights
 updated_short f e n [] us = omega arith
 updated_short f e n (w ∷ ws) [] = omega arith
 updated_short f e n (w ∷ ws) (u ∷ us) = let r = updated_short f e n ws us in omega (arith, r)
+
+in_range : (f : ℕ) (a : ℤ) → unsigned_abs (clip a (weight_min f) (weight_max f)) ≤ 2 ^ (f + 2)
+in_range f a = let p = pow_pos (f + 2) in omega (arith, ints, clamps, p)
+
+pub updated_within : (f : ℕ) (e : ℤ) (n : Bool) (ws us : List ℤ) → AllWithin (2 ^ (f + 2)) (updated_weights f e n ws us)
+unfolding updated_weights updated_weight
+updated_within f e n [] us i l = absurd (omega (arith, l))
+updated_within f e n (w ∷ ws) [] i l = absurd (omega (arith, l))
+updated_within f e n (w ∷ ws) (u ∷ us) zero l = in_range f _
+updated_within f e n (w ∷ ws) (u ∷ us) (suc i) l = updated_within f e n ws us i (omega (arith, l))
+
+-- ---- the exponents of steps
+
+-- the exponents of steps that lanes of 16 bits take
+pub exponent_least : (p : Predictor) (columns bits t : ℕ) → p.vmin ≤ℤ p.vmax → IsNarrow p bits → (pos bits -ℤ pos 14) ≤ℤ step_exponent p columns bits t
+unfolding step_exponent growth
+exponent_least p columns bits t o h = let l = h.least in omega (arith, ints, clamps, l, o)
+
+pub exponent_most : (p : Predictor) (columns bits t : ℕ) → p.vmin ≤ℤ p.vmax → IsNarrow p bits → step_exponent p columns bits t ≤ℤ pos 13
+unfolding step_exponent growth
+exponent_most p columns bits t o h = let m = h.most in omega (arith, ints, clamps, m, o)
 
 -- ---- one place
 

@@ -1,5 +1,5 @@
 -- The predictor of one band, and the images that it follows.
-use Rattle.std.specs.Prelude.{ℕ, ◌≡◌, ◌+◌, ◌*◌, ◌^◌, ◌<◌, ◌≤◌, ℤ, List, take, slice_index_or}
+use Rattle.std.specs.Prelude.{ℕ, ◌≡◌, ◌+◌, ◌*◌, ◌^◌, ◌<◌, ◌≤◌, ℤ, List, take, slice_index_or, pos, false, []}
 use Rattle.header_bits.specs.declared.params.Params.{Params}
 use Rattle.cube_core.specs.Shape.{Sizes}
 use Rattle.cube_core.specs.Kind.{SampleKind}
@@ -61,3 +61,15 @@ pub record HoldsPiece (c : Image) (n : ℕ) (old new : PredictorState) : Type 0 
   pub bound : (i : ℕ) → i < n → slice_index_or new.piece i 0 < 2 ^ c.kind.bits
   pub residuals : (p : Params) → Follows p old c → take n new.piece ≡ run_residuals p c old.band old.t n
   pub follows : (p : Params) → Follows p old c → Follows p new c
+
+-- no band
+abbrev pub no_band : PredictorState
+no_band = record {
+  predictor = record { previous = 0; reduced = false; column = false; register = 0; omega = 0; interval_log = 0; vmin = pos 0; vmax = pos 0 };
+  shape = record { columns = 0; rows = 0; bands = 0 };
+  kind = record { bits = 0; signed = false };
+  band = 0;
+  t = 0;
+  weights = [];
+  piece = [];
+}

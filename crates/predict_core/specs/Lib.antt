@@ -1,13 +1,7 @@
 pub mod Cubes
 pub mod Following
-pub mod GroupLanes
-pub mod GroupLines
-pub mod GroupPieces
-pub mod GroupRooms
 pub mod OpenPart
-pub mod Inversion
 pub mod Largest
-pub mod LongRooms
 pub mod PredictorStates
 pub mod Precedence
 pub mod Rooms
@@ -15,9 +9,5 @@ pub mod RunPlaces
 pub mod Steps
 pub mod RunChains
 pub mod Walked
-pub mod Wave
-pub mod WaveForms
-pub mod WaveSteps
-pub mod WaveLanes
-pub mod WaveTiles
-pub mod WaveRows
+pub mod BandLanes
+pub mod Offsets

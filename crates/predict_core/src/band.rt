@@ -28,14 +28,14 @@ use std::marker::Model;
 /// The predictor of one band: its weights after the samples so far, and its next place.
 ///
 /// It allocates nothing, and reads of a cube only its own band and the previous bands that its parameters use.
-/// Calls for different bands are independent.
+/// Calls for different bands are independent. The fields are public for the crates above that go over many bands at once.
 #[derive(Drop)]
 pub struct Band {
-    pub(crate) settings: Settings,
+    pub settings: Settings,
     shape: Shape,
-    pub(crate) next: u64,
-    pub(crate) weights: [i32; MOST_COMPONENTS],
-    pub(crate) piece: [u16; 64],
+    pub next: u64,
+    pub weights: [i32; MOST_COMPONENTS],
+    pub piece: [u16; 64],
 }
 
 impl Model for Band {
@@ -177,7 +177,7 @@ impl Band {
 
 /// Returns the index of the first spectral weight: in full mode the weights of the three directions come before
 /// it.
-pub(crate) fn first_spectral(reduced: bool) -> usize
+pub fn first_spectral(reduced: bool) -> usize
     ensures value { result ≡ (if reduced then 0 else 3) }
     ensures bound { result ≤ 3 }
 {
@@ -186,7 +186,7 @@ pub(crate) fn first_spectral(reduced: bool) -> usize
 
 /// Returns the mapped residual at the first place of a band.
 #[inline(always)]
-pub(crate) fn first_residual(settings: &Settings, rows: &Rows, y: u32, x: u32) -> u16
+pub fn first_residual(settings: &Settings, rows: &Rows, y: u32, x: u32) -> u16
     requires row { rows.now.y ≡ y }
     requires first { y ≡ 0 }
     requires kind { rows.now.image.kind ≡ settings.now.range.kind }

@@ -10,7 +10,7 @@ use crate::lines::{Lines, sum_above, sum_of_lines};
 use sample_prediction::neighbourhood::difference_of;
 
 /// Writes the local sum of offsets and the central difference of each place.
-pub(crate) fn fill_own(column: bool, lines: &Lines, sums: &mut [i32; 64], own: &mut [i32; 64])
+pub fn fill_own(column: bool, lines: &Lines, sums: &mut [i32; 64], own: &mut [i32; 64])
     ensures sums { (i : ℕ) → i < 64 → slice_index_or sums.new i (pos 0) ≡ pos (line_sum column lines.now.current lines.now.above i) }
     ensures own { (i : ℕ) → i < 64 → slice_index_or own.new i (pos 0) ≡ line_difference column lines.now.current lines.now.above i }
 {

@@ -181,7 +181,7 @@ fn write_residuals<const Q: usize>(
 }
 
 /// Returns the index of the first place of a run from row `y`, column `x` on that is not the first of its band.
-pub(crate) fn first_later(y: u32, x: u32) -> usize
+pub fn first_later(y: u32, x: u32) -> usize
     ensures { IsFirstLater y x result }
 {
     if y == 0 && x == 0 { 1 } else { 0 }

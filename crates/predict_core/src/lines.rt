@@ -3,7 +3,7 @@
 //! A run is at most 64 places of one row. Its lines have one place more on each side, so that every place has
 //! its neighbours at the same distances, and a loop over all 64 needs no test.
 
-ghost use Rattle.std.specs.Prelude.{◌≡◌, ◌+◌, ◌-◌, ◌*◌, ◌<◌, ◌≤◌, ℕ, false, ◌||◌, ◌==◌, length, replicate, slice_index};
+ghost use Rattle.std.specs.Prelude.{◌≡◌, ◌+◌, ◌-◌, ◌*◌, ◌<◌, ◌≤◌, ℕ, false, ◌||◌, ◌==◌, pos, length, replicate, slice_index, slice_index_or};
 ghost use Rattle.sample_prediction.specs.Lines.{bordered, bordered_above, line_sum, AreLines, AreBandLines};
 ghost use Rattle.cube_core.specs.Image.{IsPlace};
 
@@ -12,14 +12,14 @@ use sample_prediction::rows::Rows;
 
 /// The offsets of a run in its own row, `current`, and in the row `above` it, each with one place more on each side.
 #[derive(Clone, Copy)]
-pub(crate) struct Lines {
+pub struct Lines {
     pub current: [u16; 66],
     pub above: [u16; 66],
 }
 
 impl Lines {
     /// Lines of zeros, whose differences are 0.
-    pub(crate) fn empty() -> Lines
+    pub fn empty() -> Lines
         ensures current { result.current ≡ replicate 66 0 }
         ensures above { result.above ≡ replicate 66 0 }
     {
@@ -31,7 +31,7 @@ impl Lines {
 }
 
 /// Writes the lines of `count` places of band `z` from row `y`, column `x` on.
-pub(crate) fn fill_band_lines(
+pub fn fill_band_lines(
     predictor: &Predictor,
     rows: &Rows,
     z: u32,
@@ -176,7 +176,7 @@ fn offset_at(row: &[u16], k: usize, before: u16, after: u16) -> u16
 
 /// Returns whether a local sum takes one neighbour alone: the northern one under column-oriented sums, or the
 /// western one in the first row.
-pub(crate) fn is_column(column: bool, y: u32) -> bool
+pub fn is_column(column: bool, y: u32) -> bool
     ensures { result ≡ (column || y == 0) }
 {
     column | (y == 0)
@@ -208,4 +208,11 @@ pub(crate) fn sum_above(column: bool, above: &[u16; 66], i: usize) -> u32
     } else {
         above[i] as u32 + above[i + 1] as u32 + above[i + 2] as u32
     }
+}
+
+/// Writes zeros into a line.
+pub fn clear_line(line: &mut [i16; 64])
+    ensures { (i : ℕ) → i < 64 → slice_index_or line.new i (pos 0) ≡ pos 0 }
+{
+    *line = [0; 64];
 }

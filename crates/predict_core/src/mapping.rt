@@ -22,7 +22,7 @@ use sample_prediction::rows::Rows;
 ///
 /// `parts` are the predicted central differences, and `sums` the local sums of offsets. What is written for the first
 /// place of a band isn't its residual (CCSDS 123.0-B-1, "Mapped Prediction Residual").
-pub(crate) fn map_run(
+pub fn map_run(
     settings: &Settings,
     rows: &Rows,
     y: u32,
@@ -60,7 +60,7 @@ pub(crate) fn map_run(
 }
 
 /// Writes `count` offsets of a row from column `x` on into an array of zeros.
-pub(crate) fn copy_offsets(row: &[u16], x: usize, count: usize, offsets: &mut [u16; 64])
+pub fn copy_offsets(row: &[u16], x: usize, count: usize, offsets: &mut [u16; 64])
     requires few { count ≤ 64 }
     requires inside { x + count ≤ length row.now }
     requires clear { offsets.old ≡ replicate 64 0 }
@@ -110,7 +110,7 @@ fn number_of_offset(greatest: i32, part: i32, sum: i32, offset: u16) -> u16
 ///
 /// After the last place of a run the numbers may be any, and their sum may wrap.
 #[inline(always)]
-pub(crate) fn scaled_offset(greatest: i32, part: i32, sum: i32) -> i32
+pub fn scaled_offset(greatest: i32, part: i32, sum: i32) -> i32
     requires greatest_in { (pos 1 ≤ℤ greatest) × (greatest ≤ℤ pos 65535) }
     ensures bounds { (pos 0 ≤ℤ result) × (result ≤ℤ (pos 2 *ℤ greatest +ℤ pos 1)) }
     ensures value { unsigned_abs part ≤ 18 * 2 ^ 20 → pos 0 ≤ℤ sum → sum ≤ℤ pos 262140
@@ -147,7 +147,7 @@ fn apart(offset: i32, value: i32) -> i32
 
 /// Returns the distance of an offset from the nearer end of the range.
 #[inline(always)]
-pub(crate) fn nearer(greatest: i32, value: i32) -> i32
+pub fn nearer(greatest: i32, value: i32) -> i32
     requires greatest_in { greatest ≤ℤ pos 65535 }
     requires value_in { (pos 0 ≤ℤ value) × (value ≤ℤ greatest) }
     ensures value { result ≡ pos (theta_between (pos 0) greatest value) }

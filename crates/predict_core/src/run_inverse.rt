@@ -87,7 +87,7 @@ impl Band {
 
     /// Writes the sample at the next place whose mapped residual is `delta` into the cube, as `inverse` finds it, and
     /// returns it.
-    pub(crate) fn inverse_into(&mut self, cube: &mut Cube, y: u32, x: u32, delta: u16) -> i32
+    pub fn inverse_into(&mut self, cube: &mut Cube, y: u32, x: u32, delta: u16) -> i32
         requires shape { cube.old.shape ≡ self.old.shape }
         requires kind { cube.old.kind ≡ self.old.kind }
         requires place { IsPlace cube.old.shape self.old.band y x }

@@ -12,7 +12,7 @@ use sample_prediction::sample_limits::SampleLimits;
 
 /// The parameters of a band's predictor, and the constants that follow from them.
 #[derive(Clone, Copy)]
-pub(crate) struct Settings {
+pub struct Settings {
     pub predictor: Predictor,
     pub range: SampleLimits,
     pub columns: u32,
@@ -22,7 +22,7 @@ pub(crate) struct Settings {
     /// The number of weights in use.
     pub count: usize,
     /// The masks with which the offset to the west is added.
-    pub west: WestMasks,
+    pub(crate) west: WestMasks,
     pub ghost lawful: { IsPredictor predictor },
     pub ghost columns_in: { InRange 1 65536 columns },
     pub ghost near_is: { near ≡ previous_bands predictor band },

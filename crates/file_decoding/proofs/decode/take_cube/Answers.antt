@@ -1,6 +1,6 @@
 use Rattle.std.proofs.Common.{arith}
-use Rattle.predict_core.specs.Inversion.{IsAtStart}
-use Rattle.predict_core.proofs.Coded.{coded_residuals}
+use Rattle.wave_inversion.specs.Inversion.{IsAtStart}
+use Rattle.wave_inversion.proofs.Coded.{coded_residuals}
 use Rattle.file_decoding.proofs.decode.take_cube.Goals as goal
 use Rattle.file_decoding.proofs.decode.take_cube.Goals.{After-deref_mut}
 

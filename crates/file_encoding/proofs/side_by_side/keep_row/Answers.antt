@@ -1,7 +1,7 @@
 use Rattle.std.proofs.Common.{◌≡◌, ◌≤◌, ◌<◌, ◌+◌, ℕ, List, ◌∷◌, [], length, take, get_or, ap, ap₂, refl, sym, arith, ◌∙◌, ◌++◌, append_assoc, append-nil}
 use Rattle.std.specs.List.{flat_map}
 use Rattle.cube_core.specs.Order.{from}
-use Rattle.predict_core.specs.GroupRooms.{no_band}
+use Rattle.predict_core.specs.Following.{no_band}
 use Rattle.file_encoding.specs.Own.{column_of, row_of}
 use Rattle.file_encoding.specs.Pieces.{row_start}
 use Rattle.file_encoding.specs.Walks.{bands_of}

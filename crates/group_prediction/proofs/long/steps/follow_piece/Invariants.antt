@@ -1,0 +1,25 @@
+use Rattle.std.proofs.Common.{◌≡◌, ◌+◌, ◌*◌, ◌-◌, ◌^◌, ◌<◌, ◌≤◌, ℕ, unsigned_abs}
+use Rattle.cube_core.specs.Image.{Image}
+use Rattle.lanes.specs.Lanes.{place}
+use Rattle.band_lanes.specs.Rows.{numbers_of}
+use Rattle.band_lanes.specs.Fours.{column_of}
+use Rattle.sample_prediction.specs.Bounds.{AllWithin}
+use Rattle.predict_core.specs.declared.settings.Settings.{Settings}
+use Rattle.group_prediction.specs.GroupLanes.{IsLongLane}
+use Rattle.predict_core.specs.RunChains.{IsFollowed}
+use Rattle.group_prediction.proofs.long.steps.follow_piece.Given as goal
+
+abbrev pub invariant-loop-at : goal.invariant-loop-at
+invariant-loop-at g l = record {
+  begun : l.first ≤ l.at;
+  within : l.at ≤ l.last;
+  weights_in : (b : ℕ) → b < 4 → AllWithin (2 ^ (l.settings.predictor.omega + 2)) (column_of (2 * g.row.Q) b l.weights);
+  small : (i b : ℕ) → l.first ≤ i → i < l.at → b < 4 → unsigned_abs (place l.parts i b) ≤ 18 * 2 ^ 20;
+  followed : (b : ℕ) (s : Settings) (c : Image) → b < 4 → IsLongLane g.row.Q b s c l.y l.x l.last l.own l.rows → s.predictor ≡ l.settings.predictor
+      → s.range.kind ≡ l.settings.range.kind → s.columns ≡ l.settings.columns
+      → IsFollowed s c l.y l.x l.first (column_of (2 * g.row.Q) b l.fn.weights) l.first (column_of (2 * g.row.Q) b l.fn.weights) (numbers_of b l.fn.parts)
+      → IsFollowed s c l.y l.x l.first (column_of (2 * g.row.Q) b l.fn.weights) l.at (column_of (2 * g.row.Q) b l.weights) (numbers_of b l.parts);
+}
+
+abbrev pub decreases-loop-at : goal.decreases-loop-at
+decreases-loop-at g l = l.last - l.at

@@ -1,0 +1,47 @@
+use Rattle.std.proofs.Common.{◌≡◌, ◌+◌, ◌*◌, ◌-◌, ◌^◌, ◌<◌, ◌≤◌, ℕ, sym, ap, ◌∙◌, subst, arith, to_z-of_z, w32, SFits, rules}
+use Rattle.band_lanes.specs.Rows.{weights_of}
+use Rattle.sample_prediction.specs.Bounds.{AllWithin}
+use Rattle.predict_core.specs.RunChains.{AreStepsThere}
+use Rattle.group_prediction.proofs.GroupLanes.{lane_first}
+use Rattle.predict_core.proofs.LanePlaces.{exponent_least, exponent_most}
+use Rattle.predict_core.proofs.Runs.{piece_exponent}
+use Rattle.group_prediction.proofs.steps.follow_piece.Goals as goal
+
+pub new-step-requires-clause-least : goal.new-step-requires-clause-least
+new-step-requires-clause-least g c =
+    let s = c.args.settings.now in let fits : SFits w32 c.exponent_at.result = search rules in
+    rw (to_z-of_z fits, c.exponent_at.ensures.value) (exponent_least s.predictor s.columns s.range.bits _ s.lawful.order c.requires.narrow)
+
+pub new-step-requires-clause-most : goal.new-step-requires-clause-most
+new-step-requires-clause-most g c =
+    let s = c.args.settings.now in let fits : SFits w32 c.exponent_at.result = search rules in
+    rw (to_z-of_z fits, c.exponent_at.ensures.value) (exponent_most s.predictor s.columns s.range.bits _ s.lawful.order c.requires.narrow)
+
+pub loop-at-preserved : goal.loop-at-preserved
+loop-at-preserved g c =
+    let kept = c.loop-at.invariant in let few = c.places_alike.ensures.few in let step = c.new-step.ensures in let s = c.args.settings.now in
+    let fits : SFits w32 c.exponent_at.result = search rules in record {
+      begun = (let e = kept.begun in omega (arith, e));
+      within = (let e = c.loop-at-test.true in omega (arith, few, e));
+      weights_in = λ b l. subst (λ n. AllWithin (2 ^ (n + 2)) (weights_of g.row.Q b c.follow_by.new.weights)) step.omega (c.follow_by.ensures.weights_in b l);
+      followed = λ b t d l there predictor kind columns h.
+          let wide = there.columns ∙ columns in
+          let steps : (i : ℕ) → c.loop-at.at ≤ i → i < c.loop-at.at + c.places_alike.result
+          → AreStepsThere t d c.new-step.result.omega c.new-step.result.bits c.new-step.result.exponent c.args.y (c.args.x + i)
+          = λ i m n. record {
+            omega_is = step.omega ∙ sym (ap (λ p. p.omega) predictor);
+            bits_are = step.bits ∙ s.range.bits_is ∙ sym (ap (λ k. k.bits) kind) ∙ sym t.range.bits_is;
+            exponent_is = (
+                let place : c.args.y * s.columns + c.args.x + c.loop-at.at + (i - c.loop-at.at) ≡ c.args.y * d.shape.columns + (c.args.x + i) =
+                rw wide (omega (arith, m)) in
+                rw predictor (step.exponent ∙ rw (to_z-of_z fits)
+                (piece_exponent s.predictor _ s.columns s.range.bits (c.args.y * s.columns + c.args.x + c.loop-at.at) _ _
+                (c.args.y * d.shape.columns + (c.args.x + i)) (i - c.loop-at.at)
+                c.exponent_at.ensures.value (c.places_alike.ensures.alike s.range.bits (i - c.loop-at.at) (omega (arith, m, n))) wide
+                (ap (λ k. k.bits) (there.kind ∙ kind) ∙ sym s.range.bits_is) place)));
+          } in
+          let later : 0 < c.args.y + (c.args.x + c.loop-at.at) = (let e = c.requires.later in let f = kept.begun in omega (arith, e, f)) in
+          c.follow_by.ensures.followed b t d c.args.y c.args.x c.args.first (weights_of g.row.Q b c.args.weights.now) l
+          (lane_first g.row.Q b t d c.args.y c.args.x c.args.last _ c.args.own.now c.args.pairs.now (let e = c.loop-at-test.true in omega (arith, few, e)) there)
+          later steps (kept.followed b t d l there predictor kind columns h);
+    }

@@ -1,0 +1,5 @@
+pub mod GroupLanes
+pub mod GroupLines
+pub mod GroupPieces
+pub mod GroupRooms
+pub mod LongRooms

@@ -1,0 +1,133 @@
+//! The mapped residuals of a piece, computed in 16 bits.
+//!
+//! Samples of at most 12 bits leave room for it, so that a vector holds twice as many places as one of 32 bits. What
+//! is computed is what `predict_core::mapping` computes for a run, and as there no step has a branch.
+
+ghost use Rattle.std.specs.Prelude.{◌≡◌, ◌+◌, ◌^◌, ◌<◌, ◌≤◌, ℕ, pos, negsuc, ◌≤ℤ◌, ◌+ℤ◌, ◌-ℤ◌, ◌*ℤ◌, unsigned_abs, length, replicate, slice_index, slice_index_or};
+ghost use Rattle.cube_core.specs.Kind.{smin};
+ghost use Rattle.cube_core.specs.Image.{IsPlace, sample_at};
+ghost use Rattle.sample_prediction.specs.Chain.{scaled_by_difference};
+ghost use Rattle.sample_prediction.specs.LocalSum.{local_sum};
+ghost use Rattle.sample_prediction.specs.Residual.{mapped, mapped_between};
+ghost use Rattle.predict_core.specs.Rooms.{offset_number};
+
+use predict_core::narrow_offsets::{half_of, nearer, scaled_offset};
+use predict_core::settings::Settings;
+use sample_prediction::rows::Rows;
+
+/// Writes the mapped residuals of `count` places of a row, from row `y`, column `x` on.
+///
+/// `parts` are the predicted central differences, and `sums` the local sums of offsets. What is written for the first
+/// place of a band isn't its residual (CCSDS 123.0-B-1, "Mapped Prediction Residual").
+pub(crate) fn map_piece(
+    settings: &Settings,
+    rows: &Rows,
+    y: u32,
+    x: u32,
+    count: usize,
+    parts: &[i16; 64],
+    sums: &[i16; 64],
+    numbers: &mut [u16; 64],
+)
+    requires row { rows.now.y ≡ y }
+    requires place { IsPlace rows.now.image.shape settings.now.band y x }
+    requires kind { rows.now.image.kind ≡ settings.now.range.kind }
+    requires bits { rows.now.image.kind.bits ≤ 12 }
+    requires few { count ≤ 64 }
+    requires inside { x + count ≤ rows.now.image.shape.columns }
+    requires sum { (i : ℕ) → i < count → 0 < y + (x + i) → pos 4 *ℤ smin rows.now.image.kind +ℤ slice_index_or sums.now i (pos 0)
+        ≡ local_sum settings.now.predictor rows.now.image settings.now.band y (x + i) }
+    ensures bound { (i : ℕ) → i < count → slice_index_or numbers.new i 0 < 2 ^ rows.now.image.kind.bits }
+    ensures values { (i : ℕ) → i < count → 0 < y + (x + i)
+        → slice_index_or numbers.new i 0
+        ≡ mapped rows.now.image.kind (scaled_by_difference rows.now.image.kind (slice_index_or parts.now i (pos 0)) (local_sum settings.now.predictor rows.now.image
+        settings.now.band y (x + i))) (sample_at rows.now.image settings.now.band y (x + i)) }
+{
+    rows.prove_is_row();
+    let row = rows.row(settings.band);
+    let mut offsets = [0u16; 64];
+    copy_offsets(row, x as usize, count, &mut offsets);
+    let greatest = settings.range.smax - settings.range.smin;
+    map_places(greatest as i16, parts, sums, &offsets, numbers);
+}
+
+/// Writes `count` offsets of a row from column `x` on into an array of zeros.
+fn copy_offsets(row: &[u16], x: usize, count: usize, offsets: &mut [u16; 64])
+    requires few { count ≤ 64 }
+    requires inside { x + count ≤ length row.now }
+    requires clear { offsets.old ≡ replicate 64 0 }
+    ensures written { (k : ℕ) → k < count → slice_index offsets.new k ≡ slice_index row.now (x + k) }
+    ensures rest { (k : ℕ) → count ≤ k → slice_index offsets.new k ≡ 0 }
+{
+    if count == 64 {
+        // A copy of this fixed length is a few vector moves instead of a call.
+        offsets.copy_from_slice(&row[x..x + 64]);
+    } else {
+        offsets[..count].copy_from_slice(&row[x..x + count]);
+    }
+}
+
+/// Writes the mapped residual of each place's offset.
+fn map_places(
+    greatest: i16,
+    parts: &[i16; 64],
+    sums: &[i16; 64],
+    offsets: &[u16; 64],
+    out: &mut [u16; 64],
+)
+    requires greatest_in { (pos 1 ≤ℤ greatest) × (greatest ≤ℤ pos 4095) }
+    requires offsets_in { (i : ℕ) → i < 64 → pos (slice_index offsets.now i) ≤ℤ greatest }
+    ensures bound { (i : ℕ) → i < 64 → pos (slice_index out.new i) ≤ℤ greatest }
+    ensures values { (i : ℕ) → i < 64 → slice_index out.new i
+        ≡ offset_number greatest (slice_index_or parts.now i (pos 0)) (slice_index_or sums.now i (pos 0)) (slice_index offsets.now i) }
+{
+    for i in 0..64usize {
+        out[i] = number_of_offset(greatest, parts[i], sums[i], offsets[i]);
+    }
+}
+
+/// Returns the mapped residual of an offset, from the predicted central difference and the local sum of offsets.
+#[inline(always)]
+fn number_of_offset(greatest: i16, part: i16, sum: i16, offset: u16) -> u16
+    requires greatest_in { (pos 1 ≤ℤ greatest) × (greatest ≤ℤ pos 4095) }
+    requires offset_in { pos offset ≤ℤ greatest }
+    ensures bound { pos result ≤ℤ greatest }
+    ensures value { result ≡ offset_number greatest part sum offset }
+{
+    number_at(greatest, scaled_offset(greatest, part, sum), offset as i16) as u16
+}
+
+/// Returns the mapped residual of an offset, from its scaled prediction.
+#[inline(always)]
+fn number_at(greatest: i16, twice: i16, offset: i16) -> i16
+    requires greatest_in { (pos 1 ≤ℤ greatest) × (greatest ≤ℤ pos 4095) }
+    requires twice_in { (pos 0 ≤ℤ twice) × (twice ≤ℤ (pos 2 *ℤ greatest +ℤ pos 1)) }
+    requires offset_in { (pos 0 ≤ℤ offset) × (offset ≤ℤ greatest) }
+    ensures value { result ≡ pos (mapped_between (pos 0) greatest twice offset) }
+    ensures bounds { (pos 0 ≤ℤ result) × (result ≤ℤ greatest) }
+{
+    let value = half_of(twice);
+    let beyond = apart(offset, value) + nearer(greatest, value);
+    alternating_number(2 * offset - twice).min(beyond)
+}
+
+/// Returns the distance between two offsets.
+#[inline(always)]
+fn apart(offset: i16, value: i16) -> i16
+    requires offset_in { unsigned_abs offset ≤ 4095 }
+    requires value_in { unsigned_abs value ≤ 4095 }
+    ensures value { result ≡ pos (unsigned_abs (offset -ℤ value)) }
+    ensures bound { unsigned_abs result ≤ 8190 }
+{
+    (offset - value).abs()
+}
+
+/// Returns the mapped residual of a prediction residual whose two signs alternate, from twice the latter less the parity.
+#[inline(always)]
+fn alternating_number(twice: i16) -> i16
+    requires { unsigned_abs twice ≤ 2 ^ 14 }
+    ensures above { pos 0 ≤ℤ twice → result ≡ twice }
+    ensures below { twice ≤ℤ negsuc 0 → result ≡ negsuc 0 -ℤ twice }
+{
+    if twice < 0 { -1 - twice } else { twice }
+}

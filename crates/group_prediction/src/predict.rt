@@ -1,0 +1,195 @@
+//! Advancing some bands by the same piece of a row, whose mapped residuals each of them holds.
+
+ghost use Rattle.std.specs.Prelude.{◌≡◌, ◌+◌, ◌*◌, ◌≤◌, ℕ, true, false, length};
+ghost use Rattle.std.specs.List.{AllZip};
+ghost use Rattle.sample_prediction.specs.Predictor.{component_count};
+ghost use Rattle.predict_core.specs.Following.{HoldsPiece};
+ghost use Rattle.predict_core.specs.BandLanes.{IsNarrow};
+ghost use Rattle.group_prediction.specs.GroupPieces.{ArePiecesNext};
+ghost use Rattle.group_prediction.specs.GroupRooms.{AreReady};
+ghost use Rattle.predict_core.specs.Largest.{NeverWraps};
+ghost use Rattle.group_prediction.specs.LongRooms.{AreLongReady};
+
+use crate::long::room::LongRoom;
+use crate::long::side_by_side::predict_side_by_side as predict_long;
+use crate::room::GroupRoom;
+use crate::side_by_side::predict_side_by_side;
+use predict_core::band::Band;
+use predict_core::exact_lanes::{is_narrow, never_wraps, pairs_of};
+use sample_prediction::rows::Rows;
+
+/// The least numbers of bands and of places that are worth the work of going side by side.
+const LEAST_BANDS: usize = 4;
+
+const LEAST_PLACES: usize = 16;
+
+/// Advances each of some bands by `count` places of a row; each holds their mapped residuals until its next piece.
+///
+/// The bands are 1 to 8, all with the same parameters, and `count` is at most 64. All places are in the row of `rows`, and the
+/// first of them is the next one of each band, at column `x`. The image has the shape and kind of the parameters.
+/// For each band this does what `predict_piece` does (CCSDS 123.0-B-1, "Predictor"). Where no register of the bands can wrap they go
+/// side by side, in lanes of 16 bits if these are exact for the parameters and else of 32, and otherwise two at a time.
+pub fn predict_group(bands: &mut [Band], rows: &Rows, x: u32, count: usize, room: &mut GroupRoom)
+    requires few { (1 ≤ length bands.old) × (length bands.old ≤ 8) }
+    requires next { ArePiecesNext bands.old rows.now.image rows.now.y x count }
+    ensures held { AllZip (HoldsPiece rows.now.image count) bands.old bands.new }
+{
+    let y = rows.y();
+    if bands.len() >= LEAST_BANDS
+        && count >= LEAST_PLACES
+        && predict_in_lanes(bands, rows, y, x, count, room)
+    {
+        return;
+    }
+    predict_in_pairs(bands, rows, y, x, count);
+}
+
+/// Advances the bands side by side, in the shortest lanes that are exact for them, and returns whether there are any. If not, no band
+/// is advanced.
+fn predict_in_lanes(
+    bands: &mut [Band],
+    rows: &Rows,
+    y: u32,
+    x: u32,
+    count: usize,
+    room: &mut GroupRoom,
+) -> bool
+    requires row { rows.now.y ≡ y }
+    requires few { (4 ≤ length bands.old) × (length bands.old ≤ 8) }
+    requires some { 1 ≤ count }
+    requires next { ArePiecesNext bands.old rows.now.image y x count }
+    ensures held { result ≡ true → AllZip (HoldsPiece rows.now.image count) bands.old bands.new }
+    ensures kept { result ≡ false → bands.new ≡ bands.old }
+{
+    let (narrow, pairs) = lanes_of(&bands[0]);
+    if narrow && predict_by(bands, rows, y, x, count, pairs, room) {
+        return true;
+    }
+    predict_in_long_lanes(bands, rows, y, x, count, room)
+}
+
+/// Advances the bands side by side in lanes of 32 bits, and returns whether these are exact for them. If not, no band is advanced.
+fn predict_in_long_lanes(
+    bands: &mut [Band],
+    rows: &Rows,
+    y: u32,
+    x: u32,
+    count: usize,
+    room: &mut GroupRoom,
+) -> bool
+    requires row { rows.now.y ≡ y }
+    requires few { (4 ≤ length bands.old) × (length bands.old ≤ 8) }
+    requires some { 1 ≤ count }
+    requires next { ArePiecesNext bands.old rows.now.image y x count }
+    ensures held { result ≡ true → AllZip (HoldsPiece rows.now.image count) bands.old bands.new }
+    ensures kept { result ≡ false → bands.new ≡ bands.old }
+{
+    let (long, pairs) = long_lanes_of(&bands[0]);
+    if !long {
+        return false;
+    }
+    predict_by_long(bands, rows, y, x, count, pairs, &mut room.long);
+    true
+}
+
+/// Advances the bands two at a time.
+fn predict_in_pairs(bands: &mut [Band], rows: &Rows, y: u32, x: u32, count: usize)
+    requires row { rows.now.y ≡ y }
+    requires few { (1 ≤ length bands.old) × (length bands.old ≤ 8) }
+    requires next { ArePiecesNext bands.old rows.now.image y x count }
+    ensures held { AllZip (HoldsPiece rows.now.image count) bands.old bands.new }
+{
+    let pairs = bands.len() / 2;
+    for k in 0..pairs {
+        let (before, rest) = bands.split_at_mut(2 * k + 1);
+        let band = &mut before[2 * k];
+        let other = &mut rest[0];
+        band.predict_pieces(other, rows, x, count);
+    }
+    if 2 * pairs < bands.len() {
+        let band = &mut bands[2 * pairs];
+        band.predict_piece(rows, x, count);
+    }
+}
+
+/// Returns whether lanes of 16 bits are exact for a band's parameters, and how many pairs hold the components.
+fn lanes_of(band: &Band) -> (bool, usize)
+    ensures narrow { result.0 ≡ true → IsNarrow band.now.predictor band.now.kind.bits }
+    ensures wide { band.now.predictor.column ≡ false → 2 ≤ band.now.shape.columns }
+    ensures few { result.1 ≤ 9 }
+    ensures enough { (z : ℕ) → component_count band.now.predictor z ≤ 2 * result.1 }
+{
+    (is_narrow(&band.settings), pairs_of(&band.settings))
+}
+
+/// Returns whether lanes of 32 bits are exact for a band's parameters, and how many pairs hold the components.
+fn long_lanes_of(band: &Band) -> (bool, usize)
+    ensures register { result.0 ≡ true → (z : ℕ) → NeverWraps band.now.predictor band.now.kind.bits (component_count band.now.predictor z) }
+    ensures wide { band.now.predictor.column ≡ false → 2 ≤ band.now.shape.columns }
+    ensures few { result.1 ≤ 9 }
+    ensures enough { (z : ℕ) → component_count band.now.predictor z ≤ 2 * result.1 }
+{
+    (never_wraps(&band.settings), pairs_of(&band.settings))
+}
+
+/// Advances the bands side by side, by the form for a number of pairs, and returns whether 16 bits hold their weights. If not, no
+/// band is advanced.
+#[tactic(auto, using(crate::proofs::GroupFilled::ready_more))]
+fn predict_by(
+    bands: &mut [Band],
+    rows: &Rows,
+    y: u32,
+    x: u32,
+    count: usize,
+    pairs: usize,
+    room: &mut GroupRoom,
+) -> bool
+    requires row { rows.now.y ≡ y }
+    requires pairs { pairs ≤ 9 }
+    requires few { (1 ≤ length bands.old) × (length bands.old ≤ 8) }
+    requires ready { AreReady pairs bands.old rows.now.image y x count }
+    ensures held { result ≡ true → AllZip (HoldsPiece rows.now.image count) bands.old bands.new }
+    ensures kept { result ≡ false → bands.new ≡ bands.old }
+{
+    match pairs {
+        0 | 1 => predict_side_by_side::<1>(bands, rows, y, x, count, room),
+        2 => predict_side_by_side::<2>(bands, rows, y, x, count, room),
+        3 => predict_side_by_side::<3>(bands, rows, y, x, count, room),
+        4 => predict_side_by_side::<4>(bands, rows, y, x, count, room),
+        5 => predict_side_by_side::<5>(bands, rows, y, x, count, room),
+        6 => predict_side_by_side::<6>(bands, rows, y, x, count, room),
+        7 => predict_side_by_side::<7>(bands, rows, y, x, count, room),
+        8 => predict_side_by_side::<8>(bands, rows, y, x, count, room),
+        _ => predict_side_by_side::<9>(bands, rows, y, x, count, room),
+    }
+}
+
+/// Advances the bands side by side in lanes of 32 bits, by the form for a number of pairs.
+#[tactic(auto, using(crate::proofs::LongLanes::long_ready_more))]
+fn predict_by_long(
+    bands: &mut [Band],
+    rows: &Rows,
+    y: u32,
+    x: u32,
+    count: usize,
+    pairs: usize,
+    room: &mut LongRoom,
+)
+    requires row { rows.now.y ≡ y }
+    requires pairs { pairs ≤ 9 }
+    requires few { (4 ≤ length bands.old) × (length bands.old ≤ 8) }
+    requires ready { AreLongReady pairs bands.old rows.now.image y x count }
+    ensures { AllZip (HoldsPiece rows.now.image count) bands.old bands.new }
+{
+    match pairs {
+        0 | 1 => predict_long::<1>(bands, rows, y, x, count, room),
+        2 => predict_long::<2>(bands, rows, y, x, count, room),
+        3 => predict_long::<3>(bands, rows, y, x, count, room),
+        4 => predict_long::<4>(bands, rows, y, x, count, room),
+        5 => predict_long::<5>(bands, rows, y, x, count, room),
+        6 => predict_long::<6>(bands, rows, y, x, count, room),
+        7 => predict_long::<7>(bands, rows, y, x, count, room),
+        8 => predict_long::<8>(bands, rows, y, x, count, room),
+        _ => predict_long::<9>(bands, rows, y, x, count, room),
+    }
+}

@@ -1,7 +1,0 @@
-use Rattle.std.proofs.Common.{◌+◌, ◌<◌, ℕ}
-use Rattle.predict_core.specs.GroupLanes.{HasWeights}
-use Rattle.predict_core.specs.Inversion.{band_at}
-use Rattle.predict_core.proofs.wave.long.weights.fill_weights.Given as goal
-
-abbrev pub invariant-loop-b : goal.invariant-loop-b
-invariant-loop-b g l = (b : ℕ) → b < l.b → HasWeights g.row.Q b (band_at l.bands (l.first + b)) l.rows

@@ -1,8 +1,0 @@
-use Rattle.std.proofs.Common.{◌≡◌, take, length}
-use Rattle.predict_core.proofs.wave.steps.put_pairs.Given as goal
-
-abbrev pub invariant-loop-k : goal.invariant-loop-k
-invariant-loop-k g l = record {
-  first : take l.k l.own ≡ take l.k l.pairs;
-  long : length l.own ≡ 9;
-}

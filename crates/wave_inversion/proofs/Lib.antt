@@ -1,0 +1,13 @@
+pub mod SameSamples
+pub mod Coded
+pub mod Inverted
+pub mod ErrorNumbers
+pub mod WaveParts
+pub mod WaveLanes
+pub mod WaveTiles
+pub mod WaveForms
+pub mod WaveRows
+pub mod WaveLines
+pub mod WaveBegun
+pub mod WaveEnds
+pub mod WaveFound

@@ -1,0 +1,306 @@
+-- A piece of a row of eight bands: what is known before its first step is what its lanes need.
+use Rattle.std.proofs.Common.{◌≡◌, ◌+◌, ◌-◌, ◌*◌, ◌<◌, ◌≤◌, nat_le, ℕ, ℤ, pos, ◌+ℤ◌, ◌-ℤ◌, ◌*ℤ◌, unsigned_abs, Bool, true, false, List, length, take, min, refl, sym, ap, ap₂, ◌∙◌, inl, inr, arith, if◌then◌else◌}
+use Rattle.std.proofs.lemmas.Bool.{cases_lt}
+use Rattle.std.proofs.lemmas.Bool.Decides.{nat_tests}
+use Rattle.std.proofs.lemmas.Int.{ints}
+use Rattle.std.proofs.lemmas.Nat.{row_fits}
+use Rattle.cube_core.specs.Shape.{Sizes}
+use Rattle.cube_core.specs.Kind.{SampleKind, smin}
+use Rattle.cube_core.specs.Image.{Image, IsPlace, sample_at}
+use Rattle.header_bits.specs.declared.params.Params.{Params}
+use Rattle.lanes.specs.Lanes.{place}
+use Rattle.band_lanes.specs.Rows.{weights_of}
+use Rattle.sample_prediction.specs.Chain.{AreWeightsAt}
+use Rattle.sample_prediction.specs.Differences.{central_difference}
+use Rattle.sample_prediction.specs.Predictor.{predictor_of, previous_bands, component_count}
+use Rattle.sample_prediction.specs.Prediction.{weight_vector}
+use Rattle.sample_prediction.specs.Residual.{mapped_residual}
+use Rattle.sample_prediction.specs.Weights.{step_exponent}
+use Rattle.sample_prediction.specs.declared.predictor.Predictor.{Predictor}
+use Rattle.predict_core.specs.declared.settings.Settings.{Settings}
+use Rattle.predict_core.specs.Following.{PredictorState}
+use Rattle.predict_core.specs.BandLanes.{HasWeights}
+use Rattle.wave_inversion.specs.Inversion.{IsInverting, IsBandInverted, AreAhead, band_at}
+use Rattle.predict_core.specs.Offsets.{number_at}
+use Rattle.wave_inversion.specs.Wave.{sum_by, sum_at}
+use Rattle.wave_inversion.specs.WaveForms.{WaveForm}
+use Rattle.wave_inversion.specs.WaveLanes.{AreLanes, AreInStep, AreToBegin, column_at, first_column}
+use Rattle.wave_inversion.specs.WaveRows.{AreFilled}
+use Rattle.wave_inversion.specs.WaveTiles.{IsFormOf, StandAsWave}
+use Rattle.wave_inversion.proofs.WaveLanes.{central_told}
+
+-- at most 15 previous bands have at most 18 components
+pub counted : (reduced : Bool) (z previous : ℕ) → previous ≤ 15 → (if reduced then min z previous else 3 + min z previous) ≤ 18
+counted true z previous h = omega (arith, h)
+counted false z previous h = omega (arith, h)
+
+-- the constants of one band are those of each, but for its number
+abbrev pub constants_at : Settings → ℕ → Settings
+constants_at s z = record {
+  predictor = s.predictor;
+  range = s.range;
+  columns = s.columns;
+  band = z;
+  near = previous_bands s.predictor z;
+  count = component_count s.predictor z;
+  west = s.west;
+  lawful = s.lawful;
+  columns_in = s.columns_in;
+  near_is = refl;
+  count_is = refl;
+  few = counted s.predictor.reduced z s.predictor.previous s.lawful.few;
+  west_is = s.west_is;
+  wide = s.wide;
+}
+
+-- what is known before step 8
+pub record IsBegun (q : ℕ) (f : WaveForm) (c : Image) (bands : List PredictorState) (first y origin last : ℕ) (base : Settings)
+    (above numbers lower own weights : List (List ℤ)) : Type 0 where
+  pub few : q ≤ 9
+  pub pairs : f.pairs ≤ q
+  pub eight : first + 8 ≤ length bands
+  pub row : (0 < y) × (y < c.shape.rows)
+  pub steps : (8 ≤ last) × (last ≤ 63)
+  pub inside : origin + 2 ≤ c.shape.columns
+  pub stand : StandAsWave bands first c.shape.columns y origin
+  pub ahead : AreAhead bands first ((y + 1) * c.shape.columns)
+  pub form : IsFormOf f (band_at bands first).predictor c y
+  pub made : base.predictor ≡ (band_at bands first).predictor
+  pub of-kind : base.range.kind ≡ (band_at bands first).kind
+  pub of-columns : base.columns ≡ (band_at bands first).shape.columns
+  pub filled : AreFilled q f c bands first y origin above numbers lower own weights
+
+module _ {q : ℕ} {f : WaveForm} {c : Image} {bands : List PredictorState} {first y origin last : ℕ} {base : Settings}
+    {above numbers lower own weights : List (List ℤ)}
+    (k : IsBegun q f c bands first y origin last base above numbers lower own weights) {p : Params} {d : Image}
+    (inv : IsInverting p c d bands) where
+  abbrev s : ℕ → Settings
+  s b = constants_at base (first + b)
+
+  shape : c.shape ≡ p.shape
+  shape = inv.alike.shape ∙ inv.cube.shape
+
+  columns : c.shape.columns ≡ d.shape.columns
+  columns = ap (λ (z : Sizes). z.columns) inv.alike.shape
+
+  -- the bands of the wavefront, and the one that stands first
+  within : (b : ℕ) → b < 8 → first + b < p.shape.bands
+  within b fits = omega (arith, k.eight, fits, inv.many)
+
+  band : (b : ℕ) → b < 8 → IsBandInverted p c d (first + b) (band_at bands (first + b))
+  band b fits = inv.each (first + b) (within b fits)
+
+  head : IsBandInverted p c d first (band_at bands first)
+  head = inv.each first (omega (arith, k.eight, inv.many))
+
+  predictor_is : base.predictor ≡ predictor_of p
+  predictor_is = k.made ∙ head.follows.made.predictor
+
+  pub same_made : (b : ℕ) → b < 8 → (band_at bands (first + b)).predictor ≡ base.predictor
+  same_made b fits = (band b fits).follows.made.predictor ∙ sym predictor_is
+
+  -- where the image has the samples of d, it has their numbers
+  number_same : (z y' x : ℕ) → sample_at c z y' x ≡ sample_at d z y' x → number_at c z y' x ≡ number_at d z y' x
+  number_same z y' x same = ap₂ (λ (v : ℤ) (k : SampleKind). unsigned_abs (v -ℤ smin k)) same inv.alike.kind
+
+  -- in the k.row above, in all bands up to these
+  done_above : (z x : ℕ) → z < first + 8 → x < c.shape.columns → number_at c z (y - 1) x ≡ number_at d z (y - 1) x
+  done_above z x low fits =
+      let there : IsPlace c.shape z (y - 1) x = record { band = rw shape (omega (arith, low, k.eight, inv.many)); row = omega (arith, k.row); column = fits } in
+      let line = row_fits (y - 1) c.shape.columns y c.shape.columns (omega (arith, k.row.0)) (omega arith) in
+      number_same z (y - 1) x ((inv.each z (omega (arith, low, k.eight, inv.many))).done (y - 1) x there (elim (cases_lt z first) [
+        | inl below ↦ (let a = k.ahead z below in let more = row_fits (y - 1) c.shape.columns (y + 1) c.shape.columns (omega arith) (omega arith) in
+            omega (arith, a, more, fits))
+        | inr not ↦ (let here : first + (z - first) ≡ z = omega (arith, not) in let now = rw here at (k.stand (z - first) (omega (arith, low, not))) in
+            omega (arith, line, fits, now))
+      ]))
+
+  -- in the k.row itself, in the bands below
+  done_below : (z x : ℕ) → z < first → x < c.shape.columns → number_at c z y x ≡ number_at d z y x
+  done_below z x low fits =
+      let there : IsPlace c.shape z y x = record { band = rw shape (omega (arith, low, k.eight, inv.many)); row = k.row.1; column = fits } in
+      let line = row_fits y c.shape.columns (y + 1) c.shape.columns (omega arith) (omega arith) in
+      number_same z y x ((inv.each z (omega (arith, low, k.eight, inv.many))).done y x there (let a = k.ahead z low in omega (arith, a, line, fits)))
+
+  -- and in these as far as each has come
+  done_here : (b x : ℕ) → b < 8 → x < first_column origin b → number_at c (first + b) y x ≡ number_at d (first + b) y x
+  done_here b x fits low =
+      let there : IsPlace c.shape (first + b) y x = record { band = rw shape (within b fits); row = k.row.1; column = omega (arith, low, k.inside) } in
+      number_same (first + b) y x ((band b fits).done y x there (let at = k.stand b fits in omega (arith, at, low)))
+
+  -- the offsets of these bands, by their rows
+  none : origin + 0 ≡ origin
+  none = omega arith
+
+  own_number : (i b : ℕ) → i < 64 → b < 8 → 7 + b ≤ origin + i → column_at origin i b < c.shape.columns
+      → place numbers i b ≡ pos (number_at c (first + b) y (column_at origin i b))
+  own_number i b small fits low bound = let same : first + b - 0 ≡ first + b = omega arith in rw (none, same) at (k.filled.numbers_is.numbers i b small fits (omega arith) (omega arith) (omega (arith, low)) (rw none bound))
+
+  above_number : (i b : ℕ) → i < 64 → b < 8 → 7 + b ≤ origin + i → column_at origin i b < c.shape.columns
+      → place above i b ≡ pos (number_at d (first + b) (y - 1) (column_at origin i b))
+  above_number i b small fits low bound =
+      let same : first + b - 0 ≡ first + b = omega arith in
+      rw (none, same) at (k.filled.above_is.numbers i b small fits (omega arith) (omega arith) (omega (arith, low)) (rw none bound))
+      ∙ ap (λ (n : ℕ). pos n) (done_above (first + b) (column_at origin i b) (omega (arith, fits)) bound)
+
+  place_of : (z x : ℕ) → z < first + 8 → x < c.shape.columns → IsPlace d.shape z y x
+  place_of z x low fits = rw (← inv.alike.shape) (record { band = rw shape (omega (arith, low, k.eight, inv.many)); row = k.row.1; column = fits })
+
+  -- the central differences of the bands themselves before step 8
+  own_central : (i b : ℕ) → b < i → i < 8 → b < 8 → 0 < column_at origin i b → column_at origin i b + 1 < c.shape.columns
+      → place own i b ≡ central_difference base.predictor d (first + b) y (column_at origin i b)
+  own_central i b low high fits left right =
+      let x : ℕ = column_at origin i b in
+      let before : column_at origin (i - 1) b ≡ x - 1 = omega (arith, low) in let after : column_at origin (i + 1) b ≡ x + 1 = omega (arith, left) in
+      let here = own_number i b (omega (arith, high)) fits (omega (arith, left)) (omega (arith, right))
+      ∙ ap (λ (n : ℕ). pos n) (done_here b x fits (omega (arith, high, left))) in
+      let west = own_number (i - 1) b (omega (arith, high)) fits (omega (arith, left, low)) (omega (arith, right, before))
+      ∙ ap (λ (n : ℕ). pos n) (done_here b (column_at origin (i - 1) b) fits (omega (arith, high, left))) in
+      let north_west = above_number (i - 1) b (omega (arith, high)) fits (omega (arith, left, low)) (omega (arith, right, before)) in
+      let north = above_number i b (omega (arith, high)) fits (omega (arith, left)) (omega (arith, right)) in
+      let north_east = above_number (i + 1) b (omega (arith, high)) fits (omega (arith, left)) (omega (arith, right, after)) in
+      k.filled.own_is i b (omega (arith, low)) high fits
+      ∙ rw (here, west, north_west, north, north_east, before, after, k.form.column, ← k.made)
+      (sym (central_told base.predictor d inv.cube.cube (first + b) y x (place_of (first + b) x (omega (arith, fits)) (omega (arith, right)))
+      k.row.0 left (omega (arith, right, columns))))
+
+  -- and those of the bands below
+  module _ (i b : ℕ) (low : 1 ≤ i) (high : i < 63) (fits : b < 8) where
+    abbrev x : ℕ
+    x = column_at (origin + 8) i b
+
+    column_is : column_at origin (i + 8) b ≡ x
+    column_is = omega arith
+
+    lower_none : first + b < 8 → place lower i b ≡ pos 0
+    lower_none out =
+        let zero = λ (j : ℕ) (h : j < 64). k.filled.lower_numbers_is.none j b h fits out in let zero_above = λ (j : ℕ) (h : j < 64). k.filled.lower_above_is.none j b h fits out in
+        k.filled.lower_is i b low high fits
+        ∙ rw (
+          zero i (omega (arith, high)),
+          zero (i - 1) (omega (arith, high)),
+          zero_above (i - 1) (omega (arith, high)),
+          zero_above i (omega (arith, high)),
+          zero_above (i + 1) (omega (arith, high)),
+        ) (nothing f.column)
+      where
+        nothing : (r : Bool) → pos 4 *ℤ pos 0 -ℤ sum_by r (pos 0) (pos 0) (pos 0) (pos 0) ≡ pos 0
+        nothing true = refl
+        nothing false = refl
+
+    lower_some : 8 ≤ f.previous + b → 8 ≤ first + b → 0 < x → x + 1 < c.shape.columns → place lower i b ≡ central_difference base.predictor d (first + b - 8) y x
+    lower_some used some left right =
+        let z : ℕ = first + b - 8 in
+        let number = λ (j : ℕ) (h : j < 64) (m : 7 + b ≤ origin + 8 + j) (l : column_at (origin + 8) j b < c.shape.columns). k.filled.lower_numbers_is.numbers j b h fits (omega (arith, used)) some m l
+        ∙ ap (λ (n : ℕ). pos n) (done_below z (column_at (origin + 8) j b) (omega (arith, some, fits)) l) in
+        let number_above = λ (j : ℕ) (h : j < 64) (m : 7 + b ≤ origin + 8 + j) (l : column_at (origin + 8) j b < c.shape.columns). k.filled.lower_above_is.numbers j b h fits (omega (arith, used)) some m l
+        ∙ ap (λ (n : ℕ). pos n) (done_above z (column_at (origin + 8) j b) (omega (arith, some, fits)) l) in
+        let before : column_at (origin + 8) (i - 1) b ≡ x - 1 = omega (arith, low) in
+        let after : column_at (origin + 8) (i + 1) b ≡ x + 1 = omega (arith, left) in
+        let here = number i (omega (arith, high)) (omega (arith, left)) (omega (arith, right)) in
+        let west = number (i - 1) (omega (arith, high)) (omega (arith, left, low)) (omega (arith, right, before)) in
+        let north_west = number_above (i - 1) (omega (arith, high)) (omega (arith, left, low)) (omega (arith, right, before)) in
+        let north = number_above i (omega (arith, high)) (omega (arith, left)) (omega (arith, right)) in
+        let north_east = number_above (i + 1) (omega (arith, high)) (omega (arith, left)) (omega (arith, right, after)) in
+        k.filled.lower_is i b low high fits
+        ∙ rw (here, west, north_west, north, north_east, before, after, k.form.column, ← k.made)
+        (sym (central_told base.predictor d inv.cube.cube z y x (place_of z x (omega (arith, some, fits)) (omega (arith, right)))
+        k.row.0 left (omega (arith, right, columns))))
+
+  pub count_is : (b : ℕ) → b < 8 → component_count base.predictor (first + b) ≡ length (band_at bands (first + b)).weights
+  count_is b fits = sym ((k.filled.has b fits).long ∙ ap₂ component_count (same_made b fits) (band b fits).band)
+
+  kind_is : d.kind ≡ base.range.kind
+  kind_is = inv.cube.kind ∙ sym head.follows.made.kind ∙ sym k.of-kind
+
+  below_is : (i b : ℕ) → 1 ≤ i → i < last → b < 8 → 8 ≤ f.previous + b → 0 < column_at origin (i + 8) b → column_at origin (i + 8) b + 1 < d.shape.columns
+      → place lower i b ≡ (if nat_le 8 (first + b) then central_difference base.predictor d (first + b - 8) y (column_at origin (i + 8) b) else pos 0)
+  below_is i b low high fits used left right = elim (cases_lt (first + b) 8) [
+    | inl out ↦ lower_none i b low (omega (arith, high, k.steps)) fits out ∙ sym (test_no (first + b) _ _ out)
+    | inr some ↦ lower_some i b low (omega (arith, high, k.steps)) fits used some (rw (← column_is i b low (omega (arith, high, k.steps)) fits) left)
+        (omega (arith, right, columns, column_is i b low (omega (arith, high, k.steps)) fits))
+        ∙ ap (central_difference base.predictor d (first + b - 8) y) (sym (column_is i b low (omega (arith, high, k.steps)) fits))
+        ∙ sym (test_yes (first + b) _ _ some)
+  ]
+    where
+      test_no : (n : ℕ) (a b : ℤ) → n < 8 → (if nat_le 8 n then a else b) ≡ b
+      test_no n a b h = grind (arith, nat_tests, h)
+
+      test_yes : (n : ℕ) (a b : ℤ) → 8 ≤ n → (if nat_le 8 n then a else b) ≡ a
+      test_yes n a b h = grind (arith, nat_tests, h)
+
+  exponent_is : (x : ℕ) → x < c.shape.columns → f.exponent ≡ step_exponent base.predictor d.shape.columns d.kind.bits (y * d.shape.columns + x)
+  exponent_is x fits = rw (← k.made, columns, ap (λ (n : SampleKind). n.bits) inv.alike.kind) at (k.form.exponent x fits)
+
+  pub enough_at : (z : ℕ) → component_count base.predictor z ≤ 2 * q
+  enough_at z = let some = rw (← k.made) at (k.form.enough z) in omega (arith, some, k.pairs)
+
+  pub lanes_begun : AreLanes q f p s d first y origin last above lower
+  lanes_begun = record {
+    cube = inv.cube.cube;
+    row = (k.row.0, rw inv.alike.shape at k.row.1);
+    most = k.steps.1;
+    few = k.few;
+    bands = λ b fits. (refl, rw inv.cube.shape (within b fits));
+    predictor = λ b fits. refl;
+    columns = λ b fits. ap (λ (z : Sizes). z.columns) (inv.cube.shape ∙ sym head.follows.made.shape) ∙ sym k.of-columns;
+    kind = λ b fits. kind_is;
+    enough = λ b fits. enough_at (first + b);
+    register = λ b fits. rw (← k.made, inv.alike.kind) at (k.form.register (first + b));
+    reduced = k.form.reduced ∙ ap (λ (m : Predictor). m.reduced) (sym k.made);
+    column = k.form.column ∙ ap (λ (m : Predictor). m.column) (sym k.made);
+    previous = k.form.previous ∙ ap (λ (m : Predictor). m.previous) (sym k.made);
+    greatest = rw inv.alike.kind at k.form.greatest;
+    steps = λ b j fits bound. record {
+      omega_is = k.form.omega ∙ ap (λ (m : Predictor). m.omega) (sym k.made);
+      bits_are = k.form.bits ∙ ap (λ (n : SampleKind). n.bits) (inv.alike.kind ∙ kind_is) ∙ sym base.range.bits_is;
+      exponent_is = exponent_is (column_at origin j b) (omega (arith, bound, columns));
+    };
+    north = λ i b high fits left bound. above_number i b (omega (arith, high, k.steps)) fits left (omega (arith, bound, columns));
+    below = below_is;
+  }
+
+  coded_here : (b x : ℕ) → b < 8 → first_column origin b ≤ x → x < c.shape.columns → number_at c (first + b) y x ≡ mapped_residual p d (first + b) (y * d.shape.columns + x)
+  coded_here b x fits low bound =
+      let there : IsPlace c.shape (first + b) y x = record { band = rw shape (within b fits); row = k.row.1; column = bound } in
+      let holds = (band b fits).coded y x there (let at = k.stand b fits in omega (arith, at, low)) in
+      ap (λ (v : ℤ). unsigned_abs (v -ℤ smin c.kind)) holds ∙ offset_back (smin c.kind) _
+      ∙ ap (λ (n : ℕ). mapped_residual p d (first + b) (y * n + x)) columns
+    where
+      offset_back : (least : ℤ) (n : ℕ) → unsigned_abs ((least +ℤ pos n) -ℤ least) ≡ n
+      offset_back least n = omega (arith, ints)
+
+  -- each band's weights, in the rows that hold them
+  weights_there : (b : ℕ) → b < 8 → (rows : List (List ℤ)) → HasWeights q b (band_at bands (first + b)) rows
+      → AreWeightsAt p base.predictor d (first + b) (y * d.shape.columns + first_column origin b) (take (component_count base.predictor (first + b)) (weights_of q b rows))
+  weights_there b fits rows has =
+      let at = band b fits in
+      let enough : length (band_at bands (first + b)).weights ≤ 2 * q = rw (← count_is b fits) (enough_at (first + b)) in record {
+        predictor = predictor_is;
+        weights = ap (λ (n : ℕ). take n (weights_of q b rows)) (count_is b fits) ∙ has.used enough ∙ at.follows.weights
+            ∙ ap₂ (weight_vector p d) at.band (k.stand b fits ∙ ap (λ (n : ℕ). y * n + first_column origin b) columns);
+      }
+
+  -- before step 8, in the lanes that have begun
+  pub start_begun : AreInStep q p s d first y origin last (min 8 (origin + 1)) 8 numbers own weights
+  start_begun = record {
+    offsets = λ i b low high mine left right. own_number i b (omega (arith, high)) (omega (arith, mine)) left (omega (arith, right, columns))
+        ∙ ap (λ (n : ℕ). pos n) (done_here b (column_at origin i b) (omega (arith, mine)) (omega (arith, high)));
+    residuals = λ i b low high fits left right. own_number i b (omega (arith, high, k.steps)) fits (omega (arith, left)) (omega (arith, right, columns))
+        ∙ ap (λ (n : ℕ). pos n) (coded_here b (column_at origin i b) fits (omega (arith, low, left)) (omega (arith, right, columns)));
+    centrals = λ i b low high mine left right. own_central i b low high (omega (arith, mine)) left (omega (arith, right, columns));
+    weights_at = λ b mine bound.
+        let fits : b < 8 = omega (arith, mine) in let column : column_at origin 8 b ≡ first_column origin b = omega (arith, mine) in
+        rw column (weights_there b fits weights (k.filled.has b fits));
+  }
+
+  -- and in those that are to begin
+  pub to_begin : origin ≡ 0 → AreToBegin q p s d first y bands numbers
+  to_begin zero = record {
+    offset = λ b fits.
+        let column : column_at origin (7 + b) b ≡ 0 = omega (arith, zero) in
+        own_number (7 + b) b (omega (arith, fits)) fits (omega arith) (omega (arith, column, k.inside))
+        ∙ ap (λ (n : ℕ). pos n) (done_here b (column_at origin (7 + b) b) fits (omega (arith, column)) ∙ ap (number_at d (first + b) y) column);
+    weights_at = λ b fits rows has.
+        let column : first_column origin b ≡ 1 = omega (arith, zero) in rw column at (weights_there b fits rows has);
+  }

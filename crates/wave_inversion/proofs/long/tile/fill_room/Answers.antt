@@ -1,0 +1,41 @@
+use Rattle.std.proofs.Common.{◌≡◌, ◌∙◌, ◌+◌, ◌-◌, ◌^◌, ◌<◌, ◌≤◌, ℕ, pos, ◌-ℤ◌, Some, List, min, length, take, drop, ap, subst, arith}
+use Rattle.std.proofs.lemmas.Int.{ints}
+use Rattle.wave_inversion.specs.declared.long.form.LongForm.{LongForm}
+use Rattle.wave_inversion.specs.Wave.{AreOffsetRows}
+use Rattle.wave_inversion.proofs.long.tile.fill_room.Given as given
+use Rattle.wave_inversion.proofs.long.tile.fill_room.Goals as goal
+use Rattle.wave_inversion.proofs.long.tile.fill_room.Goals.{After-fill_rows-2}
+
+greatest_is : (f : LongForm) (bits : ℕ) → f.step.bits ≡ bits → pos (2 ^ bits) -ℤ pos 1 ≡ f.greatest
+greatest_is f bits same = let e = f.greatest_is in let power = ap (λ (n : ℕ). 2 ^ n) same in omega (arith, ints, e, power)
+
+module _ (g : given.Over) (c : After-fill_rows-2 g) where
+  above_in : AreOffsetRows c.args.form.greatest c.fill_rows-2.new.rows
+  above_in = subst (λ n. AreOffsetRows n c.fill_rows-2.new.rows) (greatest_is c.args.form _ c.requires.form.bits) c.fill_rows-2.ensures.within
+
+  numbers_in : AreOffsetRows c.args.form.greatest c.fill_rows.new.rows
+  numbers_in = subst (λ n. AreOffsetRows n c.fill_rows.new.rows) (greatest_is c.args.form _ c.requires.form.bits) c.fill_rows.ensures.within
+
+pub fill_centrals-requires-2-clause-numbers_in : goal.fill_centrals-requires-2-clause-numbers_in
+fill_centrals-requires-2-clause-numbers_in g c = numbers_in g (goal.at.fill_centrals-requires-2-clause-numbers_in g c).After-fill_rows-2
+
+pub fill_centrals-requires-2-clause-above_in : goal.fill_centrals-requires-2-clause-above_in
+fill_centrals-requires-2-clause-above_in g c = above_in g (goal.at.fill_centrals-requires-2-clause-above_in g c).After-fill_rows-2
+
+pub returns : goal.returns
+returns g c =
+    let d = (goal.at.returns g c).After-fill_rows-2 in record {
+      lower_numbers = c.fill_rows-3.new.rows;
+      lower_above = c.fill_rows-4.new.rows;
+      above_is = c.fill_rows-2.ensures.numbers;
+      numbers_is = c.fill_rows.ensures.numbers;
+      lower_numbers_is = c.fill_rows-3.ensures.numbers;
+      lower_above_is = c.fill_rows-4.ensures.numbers;
+      lower_is = c.fill_centrals.ensures.values;
+      own_is = c.fill_centrals-2.ensures.values;
+      has = c.fill_weights.ensures;
+      above_in = above_in g d;
+      numbers_in = numbers_in g d;
+      lower_in = c.fill_centrals.ensures.below;
+      own_in = c.fill_centrals-2.ensures.below;
+    }

@@ -1,0 +1,70 @@
+use Rattle.std.proofs.Common.{◌≡◌, ◌∙◌, ◌+◌, ◌-◌, ◌^◌, ◌<◌, ◌≤◌, ℕ, pos, ◌-ℤ◌, Some, List, min, length, take, drop, ap, subst, arith}
+use Rattle.std.proofs.Common.{length-take, length-drop}
+use Rattle.std.specs.List.{slice_get}
+use Rattle.std.proofs.lemmas.Int.{ints}
+use Rattle.std.proofs.lemmas.List.{get_or-take, get_or-drop}
+use Rattle.std.proofs.lemmas.Option.{slice_get-get_or}
+use Rattle.wave_inversion.specs.declared.form.Form.{Form}
+use Rattle.predict_core.specs.Following.{PredictorState}
+use Rattle.predict_core.specs.Following.{no_band}
+use Rattle.wave_inversion.specs.Inversion.{band_at}
+use Rattle.wave_inversion.specs.Wave.{AreOffsetLines, AreOffsetRows}
+use Rattle.wave_inversion.proofs.WaveLines.{centrals_of_lines, rows_of_lines, turned}
+use Rattle.wave_inversion.proofs.tile.fill_room.Given as given
+use Rattle.wave_inversion.proofs.tile.fill_room.Goals as goal
+use Rattle.wave_inversion.proofs.tile.fill_room.Goals.{After-fill_rows-2}
+
+-- eight bands among all
+of_eight : (bands : List PredictorState) (first b : ℕ) → first + 8 ≤ length bands → b < 8
+    → slice_get (take (first + 8 - first) (drop first bands)) (min b (length (take (first + 8 - first) (drop first bands)) - 1)) ≡ Some (band_at bands (first + b))
+of_eight bands first b eight fits =
+    let n : first + 8 - first ≡ 8 = omega arith in
+    let long : length (take (first + 8 - first) (drop first bands)) ≡ 8 = omega (arith, length-take {A = PredictorState}, length-drop {A = PredictorState}, eight) in
+    let at : min b (length (take (first + 8 - first) (drop first bands)) - 1) ≡ b = omega (arith, long, fits) in
+    ap (slice_get (take (first + 8 - first) (drop first bands))) at
+    ∙ slice_get-get_or (take (first + 8 - first) (drop first bands)) b no_band (omega (arith, long, fits))
+    ∙ ap (λ (v : PredictorState). Some v) (get_or-take (first + 8 - first) (drop first bands) b no_band (omega (arith, n, fits)) ∙ get_or-drop first bands b no_band)
+
+greatest_is : (f : Form) (bits : ℕ) → f.step.bits ≡ bits → pos (2 ^ bits) -ℤ pos 1 ≡ f.greatest
+greatest_is f bits same = let e = f.greatest_is in let power = ap (λ (n : ℕ). 2 ^ n) same in omega (arith, ints, e, power)
+
+module _ (g : given.Over) (c : After-fill_rows-2 g) where
+  above_in : AreOffsetRows c.args.form.greatest c.fill_rows-2.new.rows
+  above_in = subst (λ n. AreOffsetRows n c.fill_rows-2.new.rows) (greatest_is c.args.form _ c.requires.form.bits) c.fill_rows-2.ensures.within
+
+  numbers_in : AreOffsetRows c.args.form.greatest c.fill_rows.new.rows
+  numbers_in = subst (λ n. AreOffsetRows n c.fill_rows.new.rows) (greatest_is c.args.form _ c.requires.form.bits) c.fill_rows.ensures.within
+
+pub fill_central_lines-requires-clause-numbers_in : goal.fill_central_lines-requires-clause-numbers_in
+fill_central_lines-requires-clause-numbers_in g c =
+    subst (λ n. AreOffsetLines n c.fill_lines.new.lines) (greatest_is c.args.form _ c.requires.form.bits) c.fill_lines.ensures.within
+
+pub fill_central_lines-requires-clause-above_in : goal.fill_central_lines-requires-clause-above_in
+fill_central_lines-requires-clause-above_in g c =
+    subst (λ n. AreOffsetLines n c.fill_lines-2.new.lines) (greatest_is c.args.form _ c.requires.form.bits) c.fill_lines-2.ensures.within
+
+pub fill_centrals-requires-clause-numbers_in : goal.fill_centrals-requires-clause-numbers_in
+fill_centrals-requires-clause-numbers_in g c = numbers_in g (goal.at.fill_centrals-requires-clause-numbers_in g c).After-fill_rows-2
+
+pub fill_centrals-requires-clause-above_in : goal.fill_centrals-requires-clause-above_in
+fill_centrals-requires-clause-above_in g c = above_in g (goal.at.fill_centrals-requires-clause-above_in g c).After-fill_rows-2
+
+pub returns : goal.returns
+returns g c said =
+    let d = (goal.at.returns g c).After-fill_rows-2 in record {
+      lower_numbers = turned c.fill_lines.new.lines (8 - c.args.form.previous);
+      lower_above = turned c.fill_lines-2.new.lines (8 - c.args.form.previous);
+      above_is = c.fill_rows-2.ensures.numbers;
+      numbers_is = c.fill_rows.ensures.numbers;
+      lower_numbers_is = rows_of_lines c.fill_lines.ensures.numbers;
+      lower_above_is = rows_of_lines c.fill_lines-2.ensures.numbers;
+      lower_is = centrals_of_lines c.args.form.column c.fill_lines.new.lines c.fill_lines-2.new.lines c.fill_central_lines.new.out c.turn.new.rows
+          (8 - c.args.form.previous) c.fill_central_lines.ensures.values c.fill_central_lines.ensures.none c.turn.ensures;
+      own_is = c.fill_centrals.ensures.values;
+      has = λ b fits. c.fill_weights.ensures c.if-not-fill_weights.false b (band_at c.args.bands.now (c.args.first + b)) fits
+          (of_eight c.args.bands.now c.args.first b c.requires.eight fits);
+      above_in = above_in g d;
+      numbers_in = numbers_in g d;
+      lower_in = λ k b h m. rw (c.turn.ensures k b h m) (c.fill_central_lines.ensures.below b k m h);
+      own_in = c.fill_centrals.ensures.below;
+    }

@@ -1,0 +1,127 @@
+//! The rows of a wavefront, from the samples of a cube.
+
+ghost use Rattle.std.specs.Prelude.{◌≡◌, ◌≢◌, ◌+◌, ◌-◌, ◌*◌, ◌^◌, ◌<◌, ◌≤◌, ℕ, ℤ, pos, ◌+ℤ◌, ◌-ℤ◌, ◌*ℤ◌, ◌≤ℤ◌, length, slice_index};
+ghost use Rattle.cube_core.specs.Image.{IsPlace};
+ghost use Rattle.lanes.specs.Lanes.{lane, place};
+ghost use Rattle.predict_core.specs.Offsets.{number_at};
+ghost use Rattle.wave_inversion.specs.Wave.{AreOffsetLines, AreOffsetRows};
+ghost use Rattle.wave_inversion.specs.WaveLanes.{column_at};
+ghost use Rattle.wave_inversion.specs.WaveRows.{AreLinesOf, AreRowsOf, IsSkewed};
+
+use cube_core::cube::Cube;
+use lanes::turn::turn;
+use predict_core::lines::clear_line;
+
+/// Writes 64 rows of eight lanes: in row i, lane b has the offset at column `origin + below + i - 7 - b` of row `y` of the band that is
+/// `below` bands below band `first + b`, or 0 where there is no such band or column. Lanes before
+/// number `least` are left out.
+pub(crate) fn fill_rows(
+    cube: &Cube,
+    first: usize,
+    below: usize,
+    least: usize,
+    y: u32,
+    origin: usize,
+    lines: &mut [[i16; 64]; 8],
+    rows: &mut [[i16; 8]; 64],
+)
+    requires below { below ≤ 8 }
+    requires bands { first + 8 ≤ cube.now.shape.bands }
+    requires row { y < cube.now.shape.rows }
+    requires origin { origin ≤ 65536 }
+    requires bits { cube.now.kind.bits ≤ 12 }
+    ensures numbers { AreRowsOf cube.now first below least y origin rows.new }
+    ensures within { AreOffsetRows (pos (2 ^ cube.now.kind.bits) -ℤ pos 1) rows.new }
+{
+    fill_lines(cube, first, below, least, y, origin, lines);
+    turn(lines, rows);
+}
+
+/// Writes eight lines of 64 numbers: line b has those that `fill_rows` writes into lane b, row after row.
+pub(crate) fn fill_lines(
+    cube: &Cube,
+    first: usize,
+    below: usize,
+    least: usize,
+    y: u32,
+    origin: usize,
+    lines: &mut [[i16; 64]; 8],
+)
+    requires below { below ≤ 8 }
+    requires bands { first + 8 ≤ cube.now.shape.bands }
+    requires row { y < cube.now.shape.rows }
+    requires origin { origin ≤ 65536 }
+    requires bits { cube.now.kind.bits ≤ 12 }
+    ensures numbers { AreLinesOf cube.now first below least y origin lines.new }
+    ensures within { AreOffsetLines (pos (2 ^ cube.now.kind.bits) -ℤ pos 1) lines.new }
+{
+    cube.prove_is_cube();
+    for b in 0..8usize {
+        fill_line(cube, first + b, below, least, y, origin, b, lines);
+    }
+}
+
+/// Writes line `b`: that of the band that is `below` bands below band `z`, if b is at least `least`.
+fn fill_line(
+    cube: &Cube,
+    z: usize,
+    below: usize,
+    least: usize,
+    y: u32,
+    origin: usize,
+    b: usize,
+    lines: &mut [[i16; 64]; 8],
+)
+    requires lane { b < 8 }
+    requires below { below ≤ 8 }
+    requires band { z < cube.now.shape.bands }
+    requires row { y < cube.now.shape.rows }
+    requires origin { origin ≤ 65536 }
+    requires bits { cube.now.kind.bits ≤ 12 }
+    ensures numbers { (i : ℕ) → i < 64 → least ≤ b → below ≤ z → 7 + b ≤ origin + below + i → column_at (origin + below) i b < cube.now.shape.columns
+        → place lines.new b i ≡ pos (number_at cube.now (z - below) y (column_at (origin + below) i b)) }
+    ensures none { (i : ℕ) → i < 64 → z < below → place lines.new b i ≡ pos 0 }
+    ensures within { (i : ℕ) → i < 64 → (pos 0 ≤ℤ place lines.new b i) × (place lines.new b i ≤ℤ (pos (2 ^ cube.now.kind.bits) -ℤ pos 1)) }
+    ensures others { (k i : ℕ) → k ≢ b → place lines.new k i ≡ place lines.old k i }
+{
+    cube.prove_is_cube();
+    if z < below || b < least {
+        clear_line(&mut lines[b]);
+    } else {
+        let row = cube.row((z - below) as u32, y);
+        skew(row, origin + below, 7 + b, &mut lines[b]);
+    }
+}
+
+/// Writes a row from column `origin - back` on, with zeros where there is no column.
+fn skew(row: &[u16], origin: usize, back: usize, line: &mut [i16; 64])
+    requires back { back < 15 }
+    requires origin { origin ≤ 65544 }
+    requires columns { length row.now ≤ 65536 }
+    requires small { (x : ℕ) → x < length row.now → slice_index row.now x < 2 ^ 12 }
+    ensures { IsSkewed row.now origin back (lane line.new) }
+{
+    let first = back.saturating_sub(origin);
+    let from = origin + first - back;
+    if first == 0 && row.len() >= from + 64 {
+        // Of this fixed length it is a few moves of vectors.
+        take_numbers(&row[from..from + 64], line);
+        return;
+    }
+    let count = (64 - first).min(row.len().saturating_sub(from));
+    clear_line(line);
+    for i in 0..count {
+        line[first + i] = row[from + i] as i16;
+    }
+}
+
+/// Writes 64 numbers of a row.
+fn take_numbers(numbers: &[u16], line: &mut [i16; 64])
+    requires long { length numbers.now ≡ 64 }
+    requires small { (x : ℕ) → x < 64 → slice_index numbers.now x < 2 ^ 12 }
+    ensures { (i : ℕ) → i < 64 → lane line.new i ≡ pos (slice_index numbers.now i) }
+{
+    for i in 0..64usize {
+        line[i] = numbers[i] as i16;
+    }
+}
