@@ -12,7 +12,6 @@ ghost use Rattle.sample_adaptive.specs.Words.{code_word};
 
 use crate::band_state::BandState;
 use crate::code_settings::CodeSettings;
-use crate::statistics::Statistics;
 use lanes::eight;
 use std::simd::prelude::*;
 use word_lanes::eight_words::EightWords;
@@ -169,15 +168,15 @@ fn short_words(limit: u32, k: u32x8, residuals: u16x8) -> Fitting
 }
 
 /// Gives eight bands, from band `at` on, a counter and their accumulators.
+// Each number by itself: of both in one struct the compiler first makes a word of 64 bits.
 #[inline(always)]
 pub(crate) fn store(bands: &mut [BandState], at: usize, counter: u32, accumulators: &[u32; 8])
     requires { at + 8 ≤ length bands.old }
     ensures { bands.new ≡ with_lanes bands.old at counter accumulators.now 8 }
 {
     for j in 0..8usize {
-        bands[at + j].statistics = Statistics {
-            counter,
-            accumulator: accumulators[j],
-        };
+        let statistics = &mut bands[at + j].statistics;
+        statistics.counter = counter;
+        statistics.accumulator = accumulators[j];
     }
 }
