@@ -1,6 +1,7 @@
 //! The sample-adaptive entropy coder, both ways (CCSDS 123.0-B-1, "Sample-adaptive entropy coder").
 #![tactic(auto)]
 
+mod alike_run;
 mod band_state;
 mod code_settings;
 pub mod code_word;

@@ -1,6 +1,6 @@
 //! Pieces of a band's residuals: the statistics are halved at the end of each, and count and sum within it.
 
-ghost use Rattle.std.specs.Prelude.{◌≡◌, ◌+◌, ◌*◌, ◌^◌, ◌<◌, ◌≤◌, length, Ok, IfSome, IfNone, ℕ};
+ghost use Rattle.std.specs.Prelude.{◌≡◌, ◌+◌, ◌*◌, ◌^◌, ◌<◌, ◌≤◌, length, take, Ok, IfSome, IfNone, ℕ};
 ghost use Rattle.header_bits.specs.Bits.{Unread};
 ghost use Rattle.sample_adaptive.specs.Pieces.{AreCounted, AreWordsOf, at_piece_end};
 ghost use Rattle.sample_adaptive.specs.Reading.{word_at};
@@ -8,9 +8,10 @@ ghost use Rattle.sample_adaptive.specs.Statistics.{AreStatistics, next_statistic
 ghost use Rattle.sample_adaptive.specs.Thresholds.{AreThresholds};
 ghost use Rattle.sample_adaptive.specs.Taken.{CoderState, HasSettings, Reaches, with_band};
 
+use crate::alike_run::take_alike;
 use crate::code_settings::CodeSettings;
 use crate::code_word::take_from;
-use crate::short_run::{take_few, words_at};
+use crate::short_run::{take_few, take_few_rarely, words_at};
 use crate::short_word::ShortWords;
 use crate::statistics::{Statistics, counted};
 use header_bits::bit_reader::BitReader;
@@ -45,7 +46,25 @@ pub(crate) fn take_piece(
     let together = words.together;
     let mut taken = 0;
     while taken + together <= whole {
-        let some = take_together(
+        let kept = take_together(
+            settings,
+            thresholds,
+            together,
+            *statistics,
+            *words,
+            reader,
+            i + taken,
+            residuals,
+        );
+        if let Some(accumulator) = kept {
+            *statistics = Statistics {
+                counter: statistics.counter + together as u32,
+                accumulator,
+            };
+            taken += together;
+            continue;
+        }
+        let some = take_singly(
             settings,
             thresholds,
             together,
@@ -89,12 +108,54 @@ fn words_left(settings: CodeSettings, s: Statistics, left: usize) -> usize
     left.min((settings.rescaling.greatest + 1 - s.counter) as usize)
 }
 
-/// `take_few` for three or four words: the loop over a number that is known is unrolled.
+/// `take_alike` for three or four words: the loop over a number that is known is unrolled.
 #[inline(always)]
 fn take_together(
     settings: CodeSettings,
     thresholds: &[u32],
     together: usize,
+    statistics: Statistics,
+    words: ShortWords,
+    reader: &mut BitReader,
+    i: usize,
+    residuals: &mut [u16],
+) -> Option<u32>
+    requires thresholds { AreThresholds settings.bits settings.rescaling.size thresholds.now }
+    requires statistics { AreStatistics settings.rescaling.size statistics }
+    requires words { AreWordsOf settings words.code }
+    requires together { (3 ≤ together) × (together ≤ 4) }
+    requires ahead { together * words.most ≤ 57 }
+    requires before { statistics.counter + together ≤ 2 ^ settings.rescaling.size }
+    requires inside { i + together ≤ length residuals.old }
+    requires long { length residuals.old ≤ 2 ^ 16 }
+    ensures taken { IfSome result (λ accumulator. (v : CoderState) (z t k index : ℕ) (first : Unread) → z < length v.bands
+        → HasSettings v settings.bits settings.limit settings.rescaling.size → 0 < t + k
+        → Reaches (λ i. z) (λ i. t + i) k index i v (with_band v z statistics) first reader.old residuals.old
+        → Reaches (λ i. z) (λ i. t + i) k index (i + together) v
+        (with_band v z (at_piece_end settings.rescaling.size (record { counter = statistics.counter + together; accumulator = accumulator }))) first reader.new residuals.new) }
+    ensures statistics { IfSome result (λ accumulator. AreCounted settings.rescaling.size (record { counter = statistics.counter + together; accumulator = accumulator })) }
+    ensures same { IfNone result (reader.new ≡ reader.old) }
+    ensures before { take i residuals.new ≡ take i residuals.old }
+    ensures count { reader.new.count ≡ reader.old.count }
+    ensures long { length residuals.new ≡ length residuals.old }
+{
+    if together == 4 {
+        take_alike(
+            settings, thresholds, 4, statistics, words, reader, i, residuals,
+        )
+    } else {
+        take_alike(
+            settings, thresholds, 3, statistics, words, reader, i, residuals,
+        )
+    }
+}
+
+/// `take_few`, apart from the loop over words that share a code parameter, which is shorter so.
+#[inline(always)]
+fn take_singly(
+    settings: CodeSettings,
+    thresholds: &[u32],
+    few: usize,
     statistics: &mut Statistics,
     words: &mut ShortWords,
     reader: &mut BitReader,
@@ -104,31 +165,39 @@ fn take_together(
     requires thresholds { AreThresholds settings.bits settings.rescaling.size thresholds.now }
     requires statistics { AreStatistics settings.rescaling.size statistics.old }
     requires words { AreWordsOf settings words.old.code }
-    requires together { (3 ≤ together) × (together ≤ 4) }
-    requires ahead { together * words.old.most ≤ 57 }
-    requires before { statistics.old.counter + together ≤ 2 ^ settings.rescaling.size }
-    requires inside { i + together ≤ length residuals.old }
+    requires ahead { few * words.old.most ≤ 57 }
+    requires before { statistics.old.counter + few ≤ 2 ^ settings.rescaling.size }
+    requires inside { i + few ≤ length residuals.old }
     requires long { length residuals.old ≤ 2 ^ 16 }
     ensures taken { (v : CoderState) (z t k index : ℕ) (first : Unread) → z < length v.bands → HasSettings v settings.bits settings.limit settings.rescaling.size
         → 0 < t + k → Reaches (λ i. z) (λ i. t + i) k index i v (with_band v z statistics.old) first reader.old residuals.old
         → Reaches (λ i. z) (λ i. t + i) k index (i + result) v (with_band v z (at_piece_end settings.rescaling.size statistics.new)) first reader.new residuals.new }
-    ensures few { result ≤ together }
+    ensures few { result ≤ few }
     ensures counter { statistics.new.counter ≡ statistics.old.counter + result }
+    ensures most { result ≡ few → words.new.most ≡ words.old.most }
     ensures statistics { AreCounted settings.rescaling.size statistics.new }
     ensures words { AreWordsOf settings words.new.code }
-    ensures most { result ≡ together → words.new.most ≡ words.old.most }
     ensures count { reader.new.count ≡ reader.old.count }
     ensures long { length residuals.new ≡ length residuals.old }
 {
-    if together == 4 {
-        take_few(
-            settings, thresholds, 4, statistics, words, reader, i, residuals,
-        )
-    } else {
-        take_few(
-            settings, thresholds, 3, statistics, words, reader, i, residuals,
-        )
-    }
+    // Copies are passed on, so that all others stay in registers.
+    let mut rest_statistics = *statistics;
+    let mut rest_words = *words;
+    let mut rest = reader.fork();
+    let taken = take_few_rarely(
+        settings,
+        thresholds,
+        few,
+        &mut rest_statistics,
+        &mut rest_words,
+        &mut rest,
+        i,
+        residuals,
+    );
+    *statistics = rest_statistics;
+    *words = rest_words;
+    *reader = rest;
+    taken
 }
 
 /// Reads one residual or a few, none of which is the band's first, as long as 57 bits are left and begin with a code word, into

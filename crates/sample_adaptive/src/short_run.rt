@@ -78,6 +78,42 @@ pub(crate) fn take_few(
     taken
 }
 
+/// `take_few` where its words seldom come.
+#[cold]
+#[inline(never)]
+pub(crate) fn take_few_rarely(
+    settings: CodeSettings,
+    thresholds: &[u32],
+    few: usize,
+    statistics: &mut Statistics,
+    words: &mut ShortWords,
+    reader: &mut BitReader,
+    i: usize,
+    residuals: &mut [u16],
+) -> usize
+    requires thresholds { AreThresholds settings.bits settings.rescaling.size thresholds.now }
+    requires statistics { AreStatistics settings.rescaling.size statistics.old }
+    requires words { AreWordsOf settings words.old.code }
+    requires ahead { few * words.old.most ≤ 57 }
+    requires before { statistics.old.counter + few ≤ 2 ^ settings.rescaling.size }
+    requires inside { i + few ≤ length residuals.old }
+    requires long { length residuals.old ≤ 2 ^ 16 }
+    ensures taken { (v : CoderState) (z t k index : ℕ) (first : Unread) → z < length v.bands → HasSettings v settings.bits settings.limit settings.rescaling.size
+        → 0 < t + k → Reaches (λ i. z) (λ i. t + i) k index i v (with_band v z statistics.old) first reader.old residuals.old
+        → Reaches (λ i. z) (λ i. t + i) k index (i + result) v (with_band v z (at_piece_end settings.rescaling.size statistics.new)) first reader.new residuals.new }
+    ensures few { result ≤ few }
+    ensures counter { statistics.new.counter ≡ statistics.old.counter + result }
+    ensures most { result ≡ few → words.new.most ≡ words.old.most }
+    ensures statistics { AreCounted settings.rescaling.size statistics.new }
+    ensures words { AreWordsOf settings words.new.code }
+    ensures count { reader.new.count ≡ reader.old.count }
+    ensures long { length residuals.new ≡ length residuals.old }
+{
+    take_few(
+        settings, thresholds, few, statistics, words, reader, i, residuals,
+    )
+}
+
 /// Reads a residual, not the band's first, if its code word is short, and adds it to the accumulator. `bits` has the next bits at its
 /// front, `most` or more.
 #[inline(always)]

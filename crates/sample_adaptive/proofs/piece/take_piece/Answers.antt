@@ -1,4 +1,8 @@
-use Rattle.std.proofs.Common.{◌≡◌, ◌+◌, ◌<◌, ◌^◌, refl, arith}
+use Rattle.std.proofs.Common.{◌≡◌, ◌+◌, ◌<◌, ◌^◌, ◌∙◌, ℕ, ap, refl, arith}
+use Rattle.header_bits.specs.Bits.{Unread}
+use Rattle.sample_adaptive.specs.declared.statistics.Statistics.{Statistics}
+use Rattle.sample_adaptive.specs.Taken.{with_band}
+use Rattle.sample_adaptive.proofs.Alike.{same_front}
 use Rattle.sample_adaptive.proofs.PieceEnds.{within_piece, statistics_counted}
 use Rattle.sample_adaptive.proofs.piece.take_piece.Goals as goal
 
@@ -17,17 +21,48 @@ loop-taken-init c =
       long = refl;
     }
 
--- where a word isn't short
-pub returns-then-some-together-clause-taken : goal.returns-then-some-together-clause-taken
-returns-then-some-together-clause-taken c = λ v z t k index first within settings some was.
+-- where the next words were read singly
+pub loop-taken-preserved : goal.loop-taken-preserved
+loop-taken-preserved c =
     let inv = c.loop-taken.invariant in
     let size = c.args.settings.rescaling.size in
-    let before = inv.taken v z t k index first within settings some was in
-    let inside : c.loop-taken.statistics.counter < 2 ^ size =
+    let s : Statistics = c.loop-taken.statistics in
+    let i : ℕ = c.args.i + c.loop-taken.taken in
+    let inside : s.counter < 2 ^ size =
     omega (arith, c.loop-taken-test.true, inv.counter, c.words_left-whole.ensures.before, c.args.words.now.together_in) in
-    let next : c.args.i + (c.loop-taken.taken + c.take_together-some.result) ≡ c.args.i + c.loop-taken.taken + c.take_together-some.result = omega arith in
-    rw (c.piece_ended.ensures.value, next)
-    (c.take_together-some.ensures.taken v z t k index first within settings some (rw (within_piece size c.loop-taken.statistics inside) at before))
+    let stands : c.take_together-kept.new.reader ≡ c.loop-taken.reader = c.in_default.ensures.same in
+    let next : c.args.i + (c.loop-taken.taken + c.take_singly-some.result) ≡ i + c.take_singly-some.result = omega arith in
+    let e = c.take_singly-some.ensures in
+    let all : c.take_singly-some.result ≡ c.args.words.now.together = omega (arith, c.if-some-together.false, e.few) in
+    record {
+      taken = λ v z t k index first within settings some was.
+          let there = same_front (λ i. z) (λ i. t + i) k index i v (with_band v z s) first c.take_together-kept.new.reader c.loop-taken.residuals c.take_together-kept.new.residuals
+          c.take_together-kept.ensures.before (rw stands (rw (within_piece size s inside) at (inv.taken v z t k index first within settings some was))) in
+          rw next (e.taken v z t k index first within settings some there);
+      few = omega (arith, c.loop-taken-test.true, e.few);
+      counter = omega (arith, e.counter, inv.counter);
+      statistics = e.statistics;
+      words = e.words;
+      most = e.most all ∙ inv.most;
+      count = e.count ∙ ap (λ (r : Unread). r.count) stands ∙ inv.count;
+      long = e.long ∙ c.take_together-kept.ensures.long ∙ inv.long;
+    }
+
+-- where a word isn't short
+pub returns-then-some-together-clause-taken : goal.returns-then-some-together-clause-taken
+returns-then-some-together-clause-taken c =
+    let inv = c.loop-taken.invariant in
+    let size = c.args.settings.rescaling.size in
+    let s : Statistics = c.loop-taken.statistics in
+    let i : ℕ = c.args.i + c.loop-taken.taken in
+    let inside : s.counter < 2 ^ size =
+    omega (arith, c.loop-taken-test.true, inv.counter, c.words_left-whole.ensures.before, c.args.words.now.together_in) in
+    let stands : c.take_together-kept.new.reader ≡ c.loop-taken.reader = c.in_default.ensures.same in
+    let next : c.args.i + (c.loop-taken.taken + c.take_singly-some.result) ≡ i + c.take_singly-some.result = omega arith in
+    λ v z t k index first within settings some was.
+    let there = same_front (λ i. z) (λ i. t + i) k index i v (with_band v z s) first c.take_together-kept.new.reader c.loop-taken.residuals c.take_together-kept.new.residuals
+    c.take_together-kept.ensures.before (rw stands (rw (within_piece size s inside) at (inv.taken v z t k index first within settings some was))) in
+    rw (c.piece_ended.ensures.value, next) (c.take_singly-some.ensures.taken v z t k index first within settings some there)
 
 pub returns-then-taken-whole-clause-taken : goal.returns-then-taken-whole-clause-taken
 returns-then-taken-whole-clause-taken c = λ v z t k index first within settings some was.
