@@ -271,9 +271,9 @@ int32_t ccsds123_encode(const ccsds123_params *params,
  *   - both interleave them: a row is one of all bands, columns * bands samples, and `rows` of these make the scene;
  *   - both are band sequential: a row is one of a single band, `columns` samples, and `rows` of each band in turn make the scene.
  *
- * What is kept is the state of the coder, the file so far, and a row in the first case. In the second it is `previous` + 16 planes of two bytes
+ * What is kept is the state of the coder, the file so far, and a row in the first case. In the second it is `previous` + 8 planes of two bytes
  * a sample, and two rows of all bands: the planes of the bands that the next ones are predicted from, and those of eight bands that are
- * predicted together, with their residuals. So it pays for scenes that have many more bands.
+ * predicted together, whose residuals take their place. So it pays for scenes that have many more bands.
  *
  *     ccsds123_encoder encoder = CCSDS123_ENCODER_NONE;
  *

@@ -124,7 +124,7 @@ def a_third(room, name, shape, layout, order, times):
 def by_rows(room):
     """Checks that `compress` holds the file and little else where raw bytes come as they are coded: at most 0.45 of the raw bytes.
 
-    That is a few rows where both interleave the bands, and 19 planes where both are band sequential. The scenes have a third of their raw bytes left
+    That is a few rows where both interleave the bands, and 11 planes where both are band sequential. The scenes have a third of their raw bytes left
     in their files."""
     for shape, layout, order in (
         ((1_024, 2_048, 24), "bil", ["bi", "--depth", 1]),
@@ -141,7 +141,7 @@ def in_place(room):
     0.31 of the raw bytes, and its memory at most an eighth more. An encoder that keeps planes, of half of the bands and at most seven, does without them
     where they can't be had; so each limit has room for them, but not for the file, too. The last limit is the bound that holds of every scene."""
     for shape, layout, times in (
-        ((1_024, 1_408, 37), "bsq", 1.35),
+        ((1_024, 2_480, 21), "bsq", 1.35),
         ((1_024, 1_024, 64), "bil", 1.35),
         ((1_024, 3_072, 16), "bip", 1.44),
         ((1_024, 6_144, 8), "bsq", 1.5),

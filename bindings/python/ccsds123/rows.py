@@ -18,7 +18,7 @@ AT_ONCE = 1 << 24
 """The bytes that are coded in one call, after which Python sees an interrupt."""
 
 
-KEPT_PLANES = 16
+KEPT_PLANES = 8
 """The planes that are kept of a band sequential scene, beside those of the bands that a band is predicted from."""
 
 
@@ -35,7 +35,7 @@ class RowEncoder:
     needs unless given; or `params` has all of them.
 
     A row by line or by pixel is one of all bands, and what is kept is one row and the file so far. A band sequential row is one of a single band: each
-    of the first band, then each of the second. What is kept is then `previous` + 16 planes, of two bytes a sample, and the file so far.
+    of the first band, then each of the second. What is kept is then `previous` + 8 planes, of two bytes a sample, and the file so far.
 
     A refusal raises Fault and frees the encoder; any call after it, or after the end, raises the fault `20 Usage`. One thread makes all calls.
     """

@@ -11,7 +11,7 @@ use std::ptr::null_mut;
 /// Codes a scene whose raw bytes come row after row, in the order in which they are coded: both interleave the bands, or both are band sequential.
 ///
 /// Where bands are interleaved, a row is one of all bands, and what is kept is a row, the state of the coder, and the file so far. Else it is a row of
-/// one band, and what is kept is `previous` + 16 planes, the state of the coder, and the file so far.
+/// one band, and what is kept is `previous` + 8 planes, the state of the coder, and the file so far.
 ///
 /// A refusal ends the encoder; each call after it is refused as [`Fault::Usage`]. An encoder stays on the thread that made it.
 ///

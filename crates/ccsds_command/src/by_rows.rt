@@ -31,8 +31,8 @@ const FEWEST_ROWS: u32 = 8;
 /// The most samples in a row of all its bands: what is kept is allocated before anything is read.
 const MOST_SAMPLES: u64 = 1 << 24;
 
-/// The planes that are kept beside those of the previous bands, in band-sequential order: the samples and the residuals of eight bands.
-const PLANES: u64 = 16;
+/// The planes that are kept beside those of the previous bands, in band-sequential order: those of the eight bands in hand.
+const PLANES: u64 = 8;
 
 /// The most samples in the planes that are kept.
 const MOST_PLANE_SAMPLES: u64 = 1 << 28;

@@ -17,7 +17,7 @@ use Rattle.cube_core.proofs.RawBytes.{is_cube}
 use Rattle.header_bits.specs.declared.params.Params.{Params}
 use Rattle.header_bits.specs.Lawful.{IsLawful}
 use Rattle.file_encoding.specs.Own.{rows_of}
-use Rattle.file_encoding.specs.ByPlanes.{HasPlanes, HasBands, image_of_planes, plane_size, planes_of}
+use Rattle.file_encoding.specs.ByPlanes.{ArePlanesInRange, HasPlanes, HasPlanesOf, image_of_planes, plane_size, planes_of}
 use Rattle.file_encoding.proofs.NearBands.{HaveSamePlanes, rows_near}
 use Rattle.file_encoding.proofs.Sending.{same_lists}
 
@@ -105,20 +105,32 @@ planes_there p offsets more n lawful bands size =
     (λ i lt. rows_near p (image_of_planes p.shape p.kind offsets) (image_of_planes p.shape p.kind (offsets ++ more)) (0 + i) lawful refl
     (omega (arith, bands, lt)) (planes_more p offsets more n (0 + i) size (omega (arith, lt))))
 
--- the image has the planes that are kept from band `base` on
-pub has_kept : (p : Params) (offsets planes : List ℕ) (base many : ℕ) → planes ≡ take (many * plane_size p.shape) (drop (base * plane_size p.shape) offsets)
-    → HasBands (image_of_planes p.shape p.kind offsets) base planes many
-unfolding image_of_planes
-has_kept p offsets planes base many is k y x lt place =
-    let s : Sizes = p.shape in
+-- ---- some of the planes
+
+-- they are those from band `base` on where their samples follow one another
+pub planes_listed : (s : Sizes) (offsets planes : List ℕ) (base many : ℕ) → take (many * plane_size s) planes ≡ take (many * plane_size s) (drop (base * plane_size s) offsets)
+    → HasPlanesOf s offsets base planes many
+planes_listed s offsets planes base many is k y x lt row column =
     let i : ℕ = (k * s.rows + y) * s.columns + x in
-    let inside : y * s.columns + x < s.rows * s.columns = digits_lt place.row place.column in
+    let inside : y * s.columns + x < s.rows * s.columns = digits_lt row column in
     let up : suc k * plane_size s ≤ many * plane_size s = mul-le (suc k) (plane_size s) many (plane_size s) lt (omega arith) in
     let next : suc k * plane_size s ≡ k * plane_size s + plane_size s = grind arith in
     let there : i ≡ k * plane_size s + (y * s.columns + x) = grind arith in
     let within : i < many * plane_size s = omega (arith, inside, up, next, there) in
     let all : index_in s.columns s.rows (base + k) y x ≡ base * plane_size s + i = grind arith in
-    sample_by_planes s offsets p.kind (base + k) y x place
-    ∙ ap (sample_of p.kind) (ap (λ j. get_or offsets j 0) all
-    ∙ sym (ap (λ ns. get_or ns i 0) is ∙ get_or-take (many * plane_size s) (drop (base * plane_size s) offsets) i 0 within
-    ∙ get_or-drop (base * plane_size s) offsets i 0))
+    sym (get_or-take (many * plane_size s) planes i 0 within) ∙ ap (λ ns. get_or ns i 0) is
+    ∙ get_or-take (many * plane_size s) (drop (base * plane_size s) offsets) i 0 within
+    ∙ get_or-drop (base * plane_size s) offsets i 0 ∙ ap (λ j. get_or offsets j 0) (sym all)
+
+-- they stay so when more is handed over
+pub planes_still : (s : Sizes) (offsets more planes : List ℕ) (base many : ℕ) → base + many ≤ s.bands → (base + many) * plane_size s ≤ length offsets
+    → HasPlanesOf s offsets base planes many → HasPlanesOf s (offsets ++ more) base planes many
+planes_still s offsets more planes base many bands size has k y x lt row column =
+    let place : IsPlace s (base + k) y x = record { band = omega (arith, bands, lt); row = row; column = column } in
+    let within : index_in s.columns s.rows (base + k) y x < length offsets = omega (arith, size, plane_end s (base + many) (base + k) y x place (omega (arith, lt))) in
+    has k y x lt row column ∙ sym (get_or_append_left offsets more 0 (index_in s.columns s.rows (base + k) y x) within)
+
+pub planes_in_range : (p : Params) (offsets planes : List ℕ) (base many : ℕ) → AllByRecursion (λ v. v < 2 ^ p.kind.bits) offsets → HasPlanesOf p.shape offsets base planes many
+    → ArePlanesInRange p planes many
+planes_in_range p offsets planes base many range has y row k x lt column =
+    rw (has k y x lt row column) (read_below (2 ^ p.kind.bits) offsets (index_in p.shape.columns p.shape.rows (base + k) y x) (pow_pos p.kind.bits) range)

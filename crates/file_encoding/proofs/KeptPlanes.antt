@@ -1,28 +1,26 @@
--- Planes that are kept: the rows of all bands that are made of them, and the residuals of the last of their bands.
+-- Planes that are kept: the rows of all bands that are made of them, and the residuals of a group of their bands.
 use Rattle.std.proofs.Common.{◌≡◌, ◌+◌, ◌-◌, ◌*◌, ◌^◌, ◌<◌, ◌≤◌, ℕ, zero, suc, List, [], ◌∷◌, ◌++◌, length, take, drop, get_or, refl, sym, ap, ◌∙◌, subst, arith, inl, inr}
 use Rattle.std.proofs.Common.{length-append, length-drop, length-take, replicate, take_all}
 use Rattle.std.specs.List.{flat_map, AllByRecursion}
 use Rattle.std.proofs.Math.Seq.{take-append_seam, drop-append_seam}
 use Rattle.std.proofs.lemmas.Bool.{cases_lt}
-use Rattle.std.proofs.lemmas.List.{get_or_append_left, get_or-append_right, get_or-take, get_or-drop, drop-append-le}
+use Rattle.std.proofs.lemmas.Grind.{get_or_default_zero}
+use Rattle.std.proofs.lemmas.List.{get_or-take, get_or-drop, drop-append-le}
+use Rattle.std.proofs.lemmas.List.Elements.{recursion_from_All}
 use Rattle.std.proofs.lemmas.Nat.{mul-le, pow_pos}
 use borrow.Rule.Slice.PartMut.{put_mid, post_of, same_len_mid}
 use Rattle.cube_core.specs.Shape.{Sizes}
-use Rattle.cube_core.specs.Kind.{SampleKind, sample_of}
-use Rattle.cube_core.specs.Image.{Image, IsPlace, sample_at}
 use Rattle.cube_core.specs.Order.{upto}
 use Rattle.header_bits.specs.declared.params.Params.{Params}
 use Rattle.header_bits.specs.Lawful.{IsLawful}
 use Rattle.header_bits.proofs.Items.{all_append, all_drop, all_replicate, all_take}
-use Rattle.sample_prediction.specs.HandedRows.{AreLastRows, image_of_rows, index_by_rows, row_size}
-use Rattle.sample_prediction.proofs.HandedRows.{sample_by_rows}
+use Rattle.sample_prediction.specs.HandedRows.{AreLastRows, image_of_rows, row_size}
 use Rattle.predict_core.specs.Following.{PredictorState}
-use Rattle.file_encoding.specs.Own.{row_of, rows_of}
+use Rattle.file_encoding.specs.Own.{row_of}
 use Rattle.file_encoding.specs.Walks.{IsSeen, AreAt}
-use Rattle.file_encoding.specs.ByPlanes.{HasBands, HasLinesOf, IsRow, plane_size}
-use Rattle.file_encoding.proofs.ByLines.{HaveSameRows, are_at_same, image_more, row_end, row_there}
-use Rattle.file_encoding.proofs.KeptRows.{row_more, row_before}
-use Rattle.file_encoding.proofs.NearBands.{rows_near}
+use Rattle.file_encoding.specs.ByPlanes.{IsRow, plane_size}
+use Rattle.file_encoding.proofs.ByLines.{HaveSameRows, are_at_same, image_more, row_there}
+use Rattle.file_encoding.proofs.KeptRows.{put_outside, row_more, row_before}
 use Rattle.file_encoding.proofs.Sending.{same_lists}
 
 -- ---- lists of which a part was replaced
@@ -39,7 +37,7 @@ each_of P [] h i lt = absurd (omega (arith, lt))
 each_of P (z ∷ zs) h zero lt = h.0
 each_of P (z ∷ zs) h (suc i) lt = each_of P zs h.1 i (omega (arith, lt))
 
--- ---- a row of all bands is made of the rows of planes
+-- ---- lines of as many columns, one after another, of which one is written
 
 pub zero_row : (p : Params) (row : List ℕ) (n : ℕ) → row ≡ replicate n 0 → length row ≡ row_size p.shape → IsRow p row
 zero_row p row n is size = record { size = size; range = rw is (all_replicate (λ v. v < 2 ^ p.kind.bits) n 0 (pow_pos p.kind.bits)) }
@@ -62,6 +60,28 @@ module _ (columns i first many : ℕ) (row line : List ℕ) (start : first ≡ i
       subst (λ a. take columns (drop (j * columns) (put_mid a many row line)) ≡ take columns (drop (j * columns) row)) (sym place)
       (rw whole at (row_before columns i 0 columns many row line (omega arith) (omega (arith, fits)) long size j lt))
 
+  -- number after number
+  pub number_there : (x : ℕ) → x < columns → get_or (put_mid first many row line) (i * columns + x) 0 ≡ get_or line x 0
+  number_there x lt =
+      sym (get_or-take columns (drop (i * columns) (put_mid first many row line)) x 0 lt ∙ get_or-drop (i * columns) (put_mid first many row line) x 0)
+      ∙ ap (λ ns. get_or ns x 0) line_there
+
+  pub numbers_apart : (j x : ℕ) → (j ≡ i → ⊥) → x < columns → get_or (put_mid first many row line) (j * columns + x) 0 ≡ get_or row (j * columns + x) 0
+  numbers_apart j x apart column =
+      put_outside first many row line (j * columns + x) (omega (arith, start, fits)) (omega (arith, long, size)) (λ le. elim (cases_lt i j) [
+        | inl after ↦
+            let up : suc i * columns ≤ j * columns = mul-le (suc i) columns j columns after (omega arith) in
+            let next : suc i * columns ≡ i * columns + columns = grind arith in
+            omega (arith, start, size, up, next)
+        | inr before ↦ elim (cases_lt j i) [
+          | inl lt ↦ absurd (
+              let up : suc j * columns ≤ i * columns = mul-le (suc j) columns i columns lt (omega arith) in
+              let next : suc j * columns ≡ j * columns + columns = grind arith in
+              omega (arith, start, le, up, next, column))
+          | inr same ↦ absurd (apart (omega (arith, before, same)))
+        ]
+      ])
+
 -- a band's line in a row is inside it
 pub line_inside : (s : Sizes) (base many k : ℕ) → base + many ≤ s.bands → k < many → (base + k) * s.columns + s.columns ≤ row_size s
 line_inside s base many k inside lt =
@@ -80,15 +100,38 @@ line_of_plane s many k y lt row =
     let size : many * s.rows * s.columns ≡ many * plane_size s = grind arith in
     omega (arith, up, after, size)
 
+-- rows of two planes are one only where both planes and rows are
+pub rows_apart : (rows k j y y' : ℕ) → y < rows → y' < rows → k * rows + y ≡ j * rows + y' → y ≡ y'
+rows_apart rows k j y y' in_k in_j same = elim (cases_lt k j) [
+  | inl before ↦ absurd (
+      let up : suc k * rows ≤ j * rows = mul-le (suc k) rows j rows before (omega arith) in
+      let next : suc k * rows ≡ k * rows + rows = grind arith in
+      omega (arith, up, next, same, in_k))
+  | inr past ↦ elim (cases_lt j k) [
+    | inl after ↦ absurd (
+        let up : suc j * rows ≤ k * rows = mul-le (suc j) rows k rows after (omega arith) in
+        let next : suc j * rows ≡ j * rows + rows = grind arith in
+        omega (arith, up, next, same, in_j))
+    | inr before ↦
+        let one : k * rows ≡ j * rows = ap (λ n. n * rows) (omega (arith, past, before)) in
+        omega (arith, one, same)
+  ]
+]
+
+-- a line that was cut out of a list
+pub line_at : (columns start many : ℕ) (list line : List ℕ) → line ≡ take many (drop start list) → many ≡ columns → (x : ℕ) → x < columns
+    → get_or line x 0 ≡ get_or list (start + x) 0
+line_at columns start many list line is size x lt =
+    ap (λ ns. get_or ns x 0) is ∙ get_or-take many (drop start list) x 0 (omega (arith, size, lt)) ∙ get_or-drop start list x 0
+
+pub line_in_range : (limit columns : ℕ) (line : List ℕ) → length line ≡ columns → ((x : ℕ) → x < columns → get_or line x 0 < limit) → AllByRecursion (λ v. v < limit) line
+line_in_range limit columns line long below =
+    recursion_from_All (λ v. v < limit) line (λ i d lt. rw (get_or_default_zero line i d lt) (below i (omega (arith, lt, long))))
+
 -- ---- the rows that were handed over
 
--- the rows of all bands have the first n rows of the planes
-abbrev pub HasRowsOf : Sizes → ℕ → List ℕ → ℕ → List ℕ → ℕ → Type 0
-HasRowsOf s base planes many rows n = (k y x : ℕ) → k < many → y < n → x < s.columns
-    → get_or rows (index_by_rows s (base + k) y x) 0 ≡ get_or planes ((k * s.rows + y) * s.columns + x) 0
-
 -- a row is handed over after y rows
-module _ (p : Params) (base many y : ℕ) (planes rows row : List ℕ) (size : length rows ≡ y * row_size p.shape)
+module _ (p : Params) (y : ℕ) (rows row : List ℕ) (size : length rows ≡ y * row_size p.shape)
     (range : AllByRecursion (λ v. v < 2 ^ p.kind.bits) rows) (is_row : IsRow p row) (inside : y < p.shape.rows) where
   abbrev s : Sizes
   s = p.shape
@@ -106,22 +149,6 @@ module _ (p : Params) (base many y : ℕ) (planes rows row : List ℕ) (size : l
 
   pub row_last : row ≡ drop (y * row_size s) all
   row_last = sym (drop-append_seam rows row) ∙ ap (λ n. drop n all) size
-
-  pub rows_more : base + many ≤ s.bands → HasRowsOf s base planes many rows y → HasLinesOf s base y planes many row → HasRowsOf s base planes many all (y + 1)
-  rows_more bands old new k y' x lt up column = elim (cases_lt y' y) [
-    | inl before ↦
-        let place : IsPlace s (base + k) y' x = record { band = omega (arith, bands, lt); row = omega (arith, before, inside); column = column } in
-        get_or_append_left rows row 0 (index_by_rows s (base + k) y' x) (omega (arith, size, row_end s y (base + k) y' x place before)) ∙ old k y' x lt before column
-    | inr after ↦
-        let same : y' ≡ y = omega (arith, up, after) in
-        let here : index_by_rows s (base + k) y x ≡ y * row_size s + ((base + k) * s.columns + x) = grind arith in
-        let there : index_by_rows s (base + k) y x - y * row_size s ≡ (base + k) * s.columns + x = omega (arith, here) in
-        rw same (get_or-append_right rows row (y * row_size s) (index_by_rows s (base + k) y x) 0 size (omega (arith, here))
-        ∙ ap (λ i. get_or row i 0) there
-        ∙ sym (get_or-take s.columns (drop ((base + k) * s.columns) row) x 0 column ∙ get_or-drop ((base + k) * s.columns) row x 0)
-        ∙ ap (λ ns. get_or ns x 0) (new k lt)
-        ∙ get_or-take s.columns (drop ((k * s.rows + y) * s.columns) planes) x 0 column ∙ get_or-drop ((k * s.rows + y) * s.columns) planes x 0)
-  ]
 
   -- it is the last row, and the one before it the row above
   whole_row : take (row_size s) row ≡ row
@@ -173,28 +200,6 @@ module _ (p : Params) (base many y : ℕ) (planes rows row : List ℕ) (size : l
         same_lists (λ i. row_of p (image_of_rows s p.kind rows) (z ∷ []) i) (λ i. row_of p (image_of_rows s p.kind all) (z ∷ []) i) 0 0 y
         (λ i lt. row_there (image_of_rows s p.kind rows) (image_of_rows s p.kind all) y same_rows p lawful refl (omega (arith, inside)) (0 + i) (omega (arith, lt)) z 1
         (λ k one. omega (arith, band, one)))
-
--- ---- all rows were handed over: the residuals of a band are those of each image that has the planes
-
-pub rows_of_kept : (p : Params) (base many z : ℕ) (planes rows : List ℕ) (c : Image) → IsLawful p → HasRowsOf p.shape base planes many rows p.shape.rows
-    → IsSeen p c → HasBands c base planes many → base + many ≤ p.shape.bands → (base ≤ z - p.previous) × (z < base + many)
-    → rows_of p (image_of_rows p.shape p.kind rows) (z ∷ []) ≡ rows_of p c (z ∷ [])
-unfolding image_of_rows
-rows_of_kept p base many z planes rows c lawful whole seen has inside near =
-    rows_near p (image_of_rows p.shape p.kind rows) c z lawful refl (omega (arith, inside, near)) (record {
-      alike = record { shape = sym seen.shape; kind = sym seen.kind };
-      same = λ z' y x place low close.
-          let k : ℕ = z' - base in
-          let band : base + k ≡ z' = omega (arith, low, close, near) in
-          let lt : k < many = omega (arith, band, low, near) in
-          let there : IsPlace c.shape (base + k) y x = rw (seen.shape, band) place in
-          let mine : sample_at (image_of_rows p.shape p.kind rows) (base + k) y x ≡ sample_of p.kind (get_or planes ((k * p.shape.rows + y) * p.shape.columns + x) 0) =
-          sample_by_rows p.shape p.kind rows (base + k) y x (rw band place) ∙ ap (sample_of p.kind) (whole k y x lt place.row place.column) in
-          let its : sample_at c (base + k) y x ≡ sample_of p.kind (get_or planes ((k * p.shape.rows + y) * p.shape.columns + x) 0) =
-          subst (λ (kind : SampleKind). sample_at c (base + k) y x ≡ sample_of kind (get_or planes ((k * p.shape.rows + y) * p.shape.columns + x) 0)) seen.kind
-          (subst (λ (s : Sizes). sample_at c (base + k) y x ≡ sample_of c.kind (get_or planes ((k * s.rows + y) * s.columns + x) 0)) seen.shape (has k y x lt there)) in
-          rw band at (mine ∙ sym its);
-    })
 
 -- an image of rows has the parameters' shape and kind
 pub seen_rows : (p : Params) (rows : List ℕ) → IsSeen p (image_of_rows p.shape p.kind rows)

@@ -1,7 +1,8 @@
 -- Rows of as many columns that stand one after another in a room, and are filled piece by piece.
-use Rattle.std.proofs.Common.{◌≡◌, ◌+◌, ◌-◌, ◌*◌, ◌<◌, ◌≤◌, ℕ, suc, List, [], ◌∷◌, ◌++◌, length, take, drop, get_or, refl, sym, ap, ap₂, ◌∙◌, take-add, arith, get_or-drop, length-drop, Bool, true}
+use Rattle.std.proofs.Common.{◌≡◌, ◌+◌, ◌-◌, ◌*◌, ◌<◌, ◌≤◌, ℕ, suc, List, [], ◌∷◌, ◌++◌, length, take, drop, get_or, refl, sym, ap, ap₂, ◌∙◌, take-add, arith, get_or-drop, length-drop, Bool, true, inl, inr}
 use Rattle.std.specs.List.{flat_map}
-use Rattle.std.proofs.lemmas.List.{drop-take, drop-drop, drop-append-le, length-take-le}
+use Rattle.std.proofs.lemmas.Bool.{cases_lt}
+use Rattle.std.proofs.lemmas.List.{drop-take, drop-drop, drop-append-le, get_or-take, length-take-le}
 use Rattle.std.proofs.lemmas.Nat.{mul-le}
 use Rattle.std.proofs.lemmas.Slice.{take-put_mid, take-put_mid_below, drop-put_mid}
 use borrow.Rule.Slice.PartMut.{put_mid}
@@ -37,6 +38,33 @@ module _ (columns i x n many : ℕ) (room numbers : List ℕ) (inside : x + n �
   rows_after k lt =
       let high : suc i * columns ≤ k * columns = mul-le (suc i) columns k columns lt (omega arith) in
       drop-put_mid (i * columns + x) many room numbers (k * columns) (omega (arith, high, inside, size)) fits (long ∙ sym size)
+
+-- ---- numbers that stay as they were
+
+-- those before and behind what is written
+pub put_outside : (a n : ℕ) (room numbers : List ℕ) (j : ℕ) → a ≤ length room → length numbers ≡ n → (a ≤ j → a + n ≤ j)
+    → get_or (put_mid a n room numbers) j 0 ≡ get_or room j 0
+put_outside a n room numbers j fits long out = elim (cases_lt j a) [
+  | inl before ↦
+      sym (get_or-take (suc j) (put_mid a n room numbers) j 0 (omega arith))
+      ∙ ap (λ ns. get_or ns j 0) (take-put_mid_below a n room numbers (suc j) (omega (arith, before)) fits) ∙ get_or-take (suc j) room j 0 (omega arith)
+  | inr past ↦
+      let same : j + 0 ≡ j = omega arith in
+      ap (λ i. get_or (put_mid a n room numbers) i 0) (sym same) ∙ sym (get_or-drop j (put_mid a n room numbers) 0 0)
+      ∙ ap (λ ns. get_or ns 0 0) (drop-put_mid a n room numbers j (out past) fits long) ∙ get_or-drop j room 0 0 ∙ ap (λ i. get_or room i 0) same
+]
+
+-- a piece that is written in stretch i comes before the later numbers of each stretch, or behind them
+pub past_piece : (stretch i k first n j : ℕ) → first + n ≤ j → j < stretch → i * stretch + first ≤ k * stretch + j → i * stretch + first + n ≤ k * stretch + j
+past_piece stretch i k first n j after inside le = elim (cases_lt k i) [
+  | inl before ↦
+      let up : suc k * stretch ≤ i * stretch = mul-le (suc k) stretch i stretch before (omega arith) in
+      let next : suc k * stretch ≡ k * stretch + stretch = grind arith in
+      absurd (omega (arith, up, next, inside, le))
+  | inr past ↦
+      let up : i * stretch ≤ k * stretch = mul-le i stretch k stretch past (omega arith) in
+      omega (arith, up, after)
+]
 
 -- all rows, one after another
 pub all_rows : (f : ℕ → List ℕ) (columns : ℕ) (room zs : List ℕ) → ((k : ℕ) → k < length zs → row_start columns k columns room ≡ f (get_or zs k 0))

@@ -18,3 +18,4 @@ pub mod PlaneRows
 pub mod RowPieces
 pub mod Runs
 pub mod Sending
+pub mod TurnedPlanes

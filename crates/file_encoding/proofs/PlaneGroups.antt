@@ -1,12 +1,10 @@
 -- A group of bands whose planes were handed over is sent.
 use Rattle.std.proofs.Common.{◌≡◌, ◌+◌, ◌-◌, ◌*◌, ◌^◌, ◌<◌, ◌≤◌, ℕ, zero, suc, min, List, [], ◌∷◌, ◌++◌, length, take, drop, refl, sym, ap, ap₂, ◌∙◌, subst, arith}
-use Rattle.std.proofs.Common.{length-append, length-take, length-drop, append_assoc, take_all}
+use Rattle.std.proofs.Common.{length-append, length-drop, append_assoc, take_all}
 use Rattle.std.specs.List.{flat_map, AllByRecursion}
-use Rattle.std.proofs.lemmas.List.{drop-drop, drop-take, length-map}
-use Rattle.std.proofs.lemmas.List.Edits.{take-paste}
+use Rattle.std.proofs.lemmas.List.{drop-drop, drop_all, length-map}
 use Rattle.std.proofs.lemmas.Nat.{mul-le}
 use Rattle.std.proofs.lemmas.Slice.{drop-put_mid}
-use lib.Seq.{paste}
 use borrow.Rule.Slice.PartMut.{put_mid}
 use Rattle.cube_core.specs.Shape.{sample_count}
 use Rattle.cube_core.specs.Image.{Image, IsCube}
@@ -20,20 +18,13 @@ use Rattle.predict_core.proofs.OneCube.{residuals_inside}
 use Rattle.file_encoding.specs.Ends.{FileEncoderState, CodesAll, HasCoded, MayCodeAll}
 use Rattle.file_encoding.specs.Own.{own_residuals, rows_of}
 use Rattle.file_encoding.specs.Walks.{AreAt, bands_of}
-use Rattle.file_encoding.specs.ByPlanes.{AreAmong, AreHanded, ArePlanesUnderWay, HasBands, IsGroupWhole, IsRow, PlaneEncoderState}
-use Rattle.file_encoding.specs.ByPlanes.{end_of_group, image_of_planes, least_kept, most_at_once, most_kept, plane_size, planes_of}
-use Rattle.file_encoding.proofs.ByPlanes.{has_kept, planes_are_cube}
+use Rattle.file_encoding.specs.ByPlanes.{AreHanded, ArePlanesInRange, ArePlanesUnderWay, HasPlanesOf, IsGroupWhole, IsRow, PlaneEncoderState}
+use Rattle.file_encoding.specs.ByPlanes.{end_of_group, image_of_planes, least_kept, most_at_once, plane_size, planes_of}
+use Rattle.file_encoding.proofs.ByPlanes.{planes_are_cube, planes_in_range, planes_listed}
 use Rattle.file_encoding.proofs.Encoding.{all_residuals, length-all, own_all}
 use Rattle.file_encoding.proofs.Sending.{Pieces, bands_put, next_bands, piece_rest}
 
 -- ---- a group is whole
-
--- the numbers from a on, n of them
-all_from : (P : ℕ → Type 0) (a n : ℕ) → ((k : ℕ) → k < n → P (a + k)) → AllByRecursion P (from a n)
-all_from P a zero h = tt
-all_from P a (suc n) h =
-    let here : a + 0 ≡ a = omega arith in
-    (subst P here (h 0 (omega arith)), all_from P (suc a) n (λ k lt. let there : a + suc k ≡ suc a + k = omega arith in subst P there (h (suc k) (omega (arith, lt)))))
 
 take_from : (a n m : ℕ) → n ≤ m → take n (from a m) ≡ from a n
 take_from a zero m le = refl
@@ -58,12 +49,6 @@ module _ (p : Params) (e : PlaneEncoderState) (whole : IsGroupWhole p e) where
   abbrev next : ℕ
   next = end_of_group p e.first
 
-  abbrev base : ℕ
-  base = least_kept p e.first
-
-  abbrev many : ℕ
-  many = next - base
-
   abbrev count : ℕ
   count = next - e.first
 
@@ -78,31 +63,31 @@ module _ (p : Params) (e : PlaneEncoderState) (whole : IsGroupWhole p e) where
       let same : next * p.shape.rows * p.shape.columns ≡ next * size = grind arith in
       under.size ∙ ap (λ n. n * p.shape.columns) whole.whole ∙ same
 
-  pub many_most : many * size ≤ length e.kept
-  many_most =
-      let most : many * size ≤ most_kept p * size = mul-le many size (most_kept p) size (omega (arith, whole.more)) (omega arith) in
-      omega (arith, most, under.planes.room)
-
-  pub count_most : count * size ≤ length e.room
+  pub count_most : count * size ≤ length e.planes
   count_most =
       let most : count * size ≤ min most_at_once p.shape.bands * size = mul-le count size (min most_at_once p.shape.bands) size (omega (arith, whole.more)) (omega arith) in
-      omega (arith, most, under.planes.space)
+      omega (arith, most, under.planes.room)
 
-  -- the planes of the group and the previous ones
-  kept_size : length e.offsets - base * size ≡ many * size
+  -- its planes and the previous ones
+  kept_size : length e.offsets - e.first * size ≡ count * size
   kept_size =
-      let ends : many + base ≡ next = omega (arith, whole.more) in
-      let split : (many + base) * size ≡ many * size + base * size = grind arith in
-      let long : next * size ≡ many * size + base * size = ap (λ n. n * size) (sym ends) ∙ split in
+      let ends : count + e.first ≡ next = omega (arith, whole.more) in
+      let split : (count + e.first) * size ≡ count * size + e.first * size = grind arith in
+      let long : next * size ≡ count * size + e.first * size = ap (λ n. n * size) (sym ends) ∙ split in
       omega (arith, long, all_size)
 
-  kept_all : take (many * size) e.kept ≡ drop (base * size) e.offsets
-  kept_all = ap (λ n. take n e.kept) (sym kept_size) ∙ under.planes.kept whole.more
+  pub own_planes : HasPlanesOf p.shape e.offsets e.first e.planes count
+  own_planes =
+      let long : length (drop (e.first * size) e.offsets) ≡ count * size = length-drop (e.first * size) e.offsets ∙ kept_size in
+      planes_listed p.shape e.offsets e.planes e.first count
+      (ap (λ n. take n e.planes) (sym kept_size) ∙ under.planes.kept whole.more
+      ∙ sym (take_all (count * size) (drop (e.first * size) e.offsets) (omega (arith, long))))
 
-  pub has_planes : HasBands image base (take (many * size) e.kept) many
-  has_planes =
-      let long : length (drop (base * size) e.offsets) ≡ many * size = length-drop (base * size) e.offsets ∙ kept_size in
-      has_kept p e.offsets (take (many * size) e.kept) base many (kept_all ∙ sym (take_all (many * size) (drop (base * size) e.offsets) (omega (arith, long))))
+  pub own_in_range : ArePlanesInRange p e.planes count
+  own_in_range = planes_in_range p e.offsets e.planes e.first count under.range own_planes
+
+  pub previous_in_range : ArePlanesInRange p e.previous (e.first - least_kept p e.first)
+  previous_in_range = planes_in_range p e.offsets e.previous (least_kept p e.first) (e.first - least_kept p e.first) under.range under.planes.previous
 
   -- the bands of the group
   pub group_bands : (n : ℕ) → n ≡ count → bands_of (take n (drop e.first e.bands)) ≡ from e.first count
@@ -111,14 +96,6 @@ module _ (p : Params) (e : PlaneEncoderState) (whole : IsGroupWhole p e) where
       ∙ ap (λ zs. take count (drop e.first zs)) under.planes.own
       ∙ ap (λ zs. take count zs) (drop_upto e.first p.shape.bands under.planes.band)
       ∙ take_from e.first count (p.shape.bands - e.first) (omega arith)
-
-  pub group_among : (zs : List ℕ) → zs ≡ from e.first count → AreAmong p base many (take (many * size) e.kept) zs
-  group_among zs are = record {
-    size = omega (arith, length-take (many * size) e.kept, many_most);
-    inside = omega (arith, whole.more);
-    range = rw kept_all (all_drop (λ v. v < 2 ^ p.kind.bits) (base * size) e.offsets under.range);
-    near = rw are (all_from (λ z. (base ≤ z - p.previous) × (z < base + many)) e.first count (λ k lt. (omega (arith, lt), omega (arith, lt, whole.more))));
-  }
 
   pub group_fresh : (n : ℕ) (c : Image) → AreAt p c 0 (take n (drop e.first e.bands))
   group_fresh n c = all_take _ n (drop e.first e.bands) (under.planes.fresh c)
@@ -169,42 +146,18 @@ module _ (p : Params) (e : PlaneEncoderState) (whole : IsGroupWhole p e) where
       let ends : e.first + count ≡ next = omega (arith, whole.more) in
       subst (HasCoded p end) (sym next_planes.more ∙ ap (planes_of p image) ends) (codes p (planes_of p image e.first) under.planes.coded)
 
-  -- ---- the planes from which the next group is predicted
-
-  abbrev least : ℕ
-  least = least_kept p next
-
-  abbrev past : ℕ
-  past = least - base
-
-  pub past_most : past * size ≤ many * size
-  past_most = mul-le past size many size (omega (arith, whole.more)) (omega arith)
-
-  kept_next : (kept : List ℕ) → kept ≡ paste e.kept 0 (drop (past * size) e.kept) (many * size - past * size)
-      → take (length e.offsets - least * size) kept ≡ drop (least * size) e.offsets
-  kept_next kept is =
-      let left : ℕ = many * size - past * size in
-      let there : past + base ≡ least = omega (arith, whole.more) in
-      let split : (past + base) * size ≡ past * size + base * size = grind arith in
-      let start : least * size ≡ past * size + base * size = ap (λ n. n * size) (sym there) ∙ split in
-      let long : length e.offsets - least * size ≡ 0 + left = omega (arith, start, kept_size, past_most) in
-      let front : past * size + left ≡ many * size = omega (arith, past_most) in
-      let fits : left ≤ length (drop (past * size) e.kept) = omega (arith, length-drop (past * size) e.kept, many_most, past_most) in
-      let place : base * size + past * size ≡ least * size = omega (arith, start) in
-      ap₂ (λ n ns. take n ns) long is
-      ∙ take-paste e.kept 0 (drop (past * size) e.kept) left (omega arith) fits
-      ∙ sym (drop-take (past * size) left e.kept)
-      ∙ ap (λ n. drop (past * size) (take n e.kept)) front
-      ∙ ap (drop (past * size)) kept_all
-      ∙ drop-drop (past * size) (base * size) e.offsets ∙ ap (λ n. drop n e.offsets) place
-
   -- ---- the state after it
 
-  pub group_sent : (new : PlaneEncoderState) (n : ℕ) (sub : List PredictorState) → n ≡ count → length new.kept ≡ length e.kept
-      → new.kept ≡ paste e.kept 0 (drop (past * size) e.kept) (many * size - past * size) → new.y ≡ e.y → new.offsets ≡ e.offsets → new.first ≡ next
-      → IsRow p new.present → IsRow p new.above → length new.room ≡ length e.room → new.bands ≡ put_mid e.first n e.bands sub
+  nothing_more : (ns : List ℕ) → take (length e.offsets - next * size) ns ≡ drop (next * size) e.offsets
+  nothing_more ns =
+      let none : length e.offsets - next * size ≡ 0 = omega (arith, all_size) in
+      ap (λ n. take n ns) none ∙ sym (drop_all (next * size) e.offsets (omega (arith, all_size)))
+
+  pub group_sent : (new : PlaneEncoderState) (n : ℕ) (sub : List PredictorState) → n ≡ count → length new.planes ≡ length e.planes
+      → length new.previous ≡ length e.previous → HasPlanesOf p.shape e.offsets (least_kept p next) new.previous (next - least_kept p next)
+      → new.y ≡ e.y → new.offsets ≡ e.offsets → new.first ≡ next → IsRow p new.present → IsRow p new.above → new.bands ≡ put_mid e.first n e.bands sub
       → bands_of sub ≡ bands_of (take n (drop e.first e.bands)) → CodesAll e.end new.end (flat_map planes (from e.first count)) → ArePlanesUnderWay p new
-  group_sent new n sub is long kept y_is offsets_are first_is present above room_is bands_are same codes =
+  group_sent new n sub is long previous_long previous y_is offsets_are first_is present above bands_are same codes =
       let sub_size : length sub ≡ n =
       sym (length-map sub (λ b. b.band)) ∙ ap (λ (zs : List ℕ). length zs) (same ∙ group_bands n is) ∙ length-from e.first count ∙ sym is in
       let ends : e.first + n ≤ next = omega (arith, is, whole.more) in
@@ -222,10 +175,11 @@ module _ (p : Params) (e : PlaneEncoderState) (whole : IsGroupWhole p e) where
           band = omega (arith, first_is);
           begun = rw (first_is, y_is) (omega (arith, whole.whole));
           room = long ∙ under.planes.room;
-          kept = λ some. rw (first_is, offsets_are) (kept_next new.kept kept);
+          kept = λ some. rw (first_is, offsets_are) (nothing_more new.planes);
+          previous_room = omega (arith, previous_long, under.planes.previous_room);
+          previous = rw (first_is, offsets_are) previous;
           present = present;
           above = above;
-          space = omega (arith, room_is, under.planes.space);
           own = ap bands_of bands_are ∙ bands_put e.bands e.bands sub e.first n refl same ∙ under.planes.own;
           fresh = λ c. rw first_is (subst (AreAt p c 0) (start ∙ sym rest) (all_drop _ (next - e.first) (drop e.first e.bands) (under.planes.fresh c)));
           coded = rw (first_is, offsets_are) (coded_after codes);

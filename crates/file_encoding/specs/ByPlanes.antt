@@ -33,16 +33,16 @@ image_of_planes s k offsets =
 
 -- ---- the encoder's state
 
--- the number of rows so far and their offsets, the first band of the group in hand, the planes that are kept, the rows of all bands that were
--- predicted last, the room for the residuals of a group, the predictors of all bands, and what was written of the file
+-- the number of rows so far and their offsets, the first band of the group in hand, the planes of the previous bands and of the group, the rows of
+-- all bands that were predicted last, the predictors of all bands, and what was written of the file
 pub record PlaneEncoderState : Type 0 where
   pub y : ℕ
   pub offsets : List ℕ
   pub first : ℕ
-  pub kept : List ℕ
+  pub previous : List ℕ
+  pub planes : List ℕ
   pub present : List ℕ
   pub above : List ℕ
-  pub room : List ℕ
   pub bands : List PredictorState
   pub end : FileEncoderState
 
@@ -62,9 +62,9 @@ least_kept p first = first - p.previous
 abbrev pub end_of_group : Params → ℕ → ℕ
 end_of_group p first = min p.shape.bands (first + most_at_once)
 
--- the most planes that are kept
-abbrev pub most_kept : Params → ℕ
-most_kept p = min (p.previous + most_at_once) p.shape.bands
+-- the most planes of previous bands that are kept
+abbrev pub most_previous : Params → ℕ
+most_previous p = min p.previous p.shape.bands
 
 -- the residuals of the first n bands
 abbrev pub planes_of : Params → Image → ℕ → List ℕ
@@ -75,17 +75,22 @@ pub record IsRow (p : Params) (row : List ℕ) : Type 0 where
   pub size : length row ≡ row_size p.shape
   pub range : AllByRecursion (λ v. v < 2 ^ p.kind.bits) row
 
--- the planes of the bands from the least that is kept on are there as far as they were handed over, no residual of the group in hand is coded,
+-- some planes are those of the bands from `base` on
+abbrev pub HasPlanesOf : Sizes → List ℕ → ℕ → List ℕ → ℕ → Type 0
+HasPlanesOf s offsets base planes many = (k y x : ℕ) → k < many → y < s.rows → x < s.columns
+    → slice_index_or planes ((k * s.rows + y) * s.columns + x) 0 ≡ slice_index_or offsets (((base + k) * s.rows + y) * s.columns + x) 0
+
+-- the planes of the previous bands are there, and those of the group in hand as far as they were handed over; no residual of the group is coded,
 -- and those of all bands before it are
 pub record AreKept (p : Params) (e : PlaneEncoderState) : Type 0 where
   pub band : e.first ≤ p.shape.bands
   pub begun : e.first * p.shape.rows ≤ e.y
-  pub room : length e.kept ≡ most_kept p * plane_size p.shape
-  pub kept : e.first < p.shape.bands → take (length e.offsets - least_kept p e.first * plane_size p.shape) e.kept
-      ≡ drop (least_kept p e.first * plane_size p.shape) e.offsets
+  pub room : length e.planes ≡ min most_at_once p.shape.bands * plane_size p.shape
+  pub kept : e.first < p.shape.bands → take (length e.offsets - e.first * plane_size p.shape) e.planes ≡ drop (e.first * plane_size p.shape) e.offsets
+  pub previous_room : most_previous p * plane_size p.shape ≤ length e.previous
+  pub previous : HasPlanesOf p.shape e.offsets (least_kept p e.first) e.previous (e.first - least_kept p e.first)
   pub present : IsRow p e.present
   pub above : IsRow p e.above
-  pub space : min most_at_once p.shape.bands * plane_size p.shape ≤ length e.room
   pub own : bands_of e.bands ≡ upto p.shape.bands
   pub fresh : (c : Image) → AreAt p c 0 (drop e.first e.bands)
   pub coded : HasCoded p e.end (planes_of p (image_of_planes p.shape p.kind e.offsets) e.first)
@@ -123,19 +128,21 @@ pub record AreAllPlanes (e : PlaneEncoderState) : Type 0 where
 
 -- ---- the prediction of some bands
 
--- an image has these planes, from band `base` on
-abbrev pub HasBands : Image → ℕ → List ℕ → ℕ → Type 0
-HasBands c base planes many = (k y x : ℕ) → k < many → IsPlace c.shape (base + k) y x
-    → sample_at c (base + k) y x ≡ sample_of c.kind (slice_index_or planes ((k * c.shape.rows + y) * c.shape.columns + x) 0)
-
 -- row y of each of these planes, from band `base` on, is in a row of all bands
 abbrev pub HasLinesOf : Sizes → ℕ → ℕ → List ℕ → ℕ → List ℕ → Type 0
-HasLinesOf s base y planes many row = (k : ℕ) → k < many
-    → take s.columns (drop ((base + k) * s.columns) row) ≡ take s.columns (drop ((k * s.rows + y) * s.columns) planes)
+HasLinesOf s base y planes many row = (k x : ℕ) → k < many → x < s.columns
+    → slice_index_or row ((base + k) * s.columns + x) 0 ≡ slice_index_or planes ((k * s.rows + y) * s.columns + x) 0
 
--- the planes of some bands and of the previous ones of each, from band `base` on
-pub record AreAmong (p : Params) (base many : ℕ) (planes zs : List ℕ) : Type 0 where
-  pub size : length planes ≡ many * plane_size p.shape
-  pub inside : base + many ≤ p.shape.bands
-  pub range : AllByRecursion (λ v. v < 2 ^ p.kind.bits) planes
-  pub near : AllByRecursion (λ z. (base ≤ z - p.previous) × (z < base + many)) zs
+-- row y of each of these planes has offsets of a kind
+abbrev pub AreLinesInRange : Params → ℕ → List ℕ → ℕ → Type 0
+AreLinesInRange p y planes many =
+    (k x : ℕ) → k < many → x < p.shape.columns → slice_index_or planes ((k * p.shape.rows + y) * p.shape.columns + x) 0 < 2 ^ p.kind.bits
+
+-- so has every row
+abbrev pub ArePlanesInRange : Params → List ℕ → ℕ → Type 0
+ArePlanesInRange p planes many = (y : ℕ) → y < p.shape.rows → AreLinesInRange p y planes many
+
+-- planes that differ in row y alone
+abbrev pub AreSameBut : Sizes → ℕ → List ℕ → List ℕ → Type 0
+AreSameBut s y old new = (k y' x : ℕ) → y' < s.rows → (y' ≡ y → ⊥) → x < s.columns
+    → slice_index_or new ((k * s.rows + y') * s.columns + x) 0 ≡ slice_index_or old ((k * s.rows + y') * s.columns + x) 0

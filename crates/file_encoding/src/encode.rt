@@ -14,7 +14,7 @@ use crate::file_encoder::FileEncoder;
 use crate::in_place::turn_cube;
 use crate::offsets::send_offsets;
 use crate::pieces::GROUP;
-use crate::walk::{planes_room, send_own};
+use crate::walk::{most_planes, planes_room, send_own};
 use cube_core::cube::Cube;
 use cube_core::fault::Fault;
 use cube_core::order::Order;
@@ -69,7 +69,7 @@ fn needs_less_in_place(params: &Params) -> bool
     let shape = params.shape;
     let bands = u64::from(shape.bands());
     let lines = 2 * bands + GROUP as u64;
-    let planes = bands.min(14) / 2;
+    let planes = u64::from(most_planes(shape));
     match params.order {
         Order::Bsq => lines < planes * u64::from(shape.rows()),
         Order::Bi(_) => false,

@@ -9,7 +9,7 @@ ghost use Rattle.header_bits.specs.declared.params.Params.{Params as Parameters}
 ghost use Rattle.file_encoding.specs.ByPlanes.{AreAllPlanes, AreHanded, ArePlanesUnderWay, IsFileOfPlanes, IsGroupWhole, end_of_group};
 
 use crate::file_encoder::FileEncoder;
-use crate::kept_planes::keep_planes;
+use crate::kept_planes::turn_planes;
 use crate::pieces::GROUP;
 use cube_core::fault::Fault;
 use header_bits::params::Params;
@@ -21,16 +21,17 @@ use std::marker::Model;
 
 /// An encoder that is handed an image band after band, row by row, in band-sequential order.
 ///
-/// It keeps the planes of the group of bands in hand, at most eight, and of the previous bands from which they are predicted, the state
-/// of each band's predictor and coder, and the bytes of the file so far: no other sample.
+/// It keeps the planes of the group of bands in hand, at most eight, and of the previous bands from which they are predicted, two rows
+/// of all bands, the state of each band's predictor and coder, and the bytes of the file so far: no other sample. A whole group's
+/// residuals take the place of its samples.
 #[derive(Drop)]
 pub struct PlaneEncoder {
     y: u64,
     first: u32,
-    kept: Vec<u16>,
+    previous: Vec<u16>,
+    planes: Vec<u16>,
     present: Vec<u16>,
     above: Vec<u16>,
-    room: Vec<u16>,
     bands: Vec<Band>,
     end: FileEncoder,
     /// The rows so far, one after another, each of one band.
@@ -42,7 +43,7 @@ impl Model for PlaneEncoder {
 
     ghost Value = { PlaneEncoderState };
 
-    ghost view = { λ e. record { y = e.y; offsets = e.handed.offsets; first = e.first; kept = e.kept.items; present = e.present.items; above = e.above.items; room = e.room.items; bands = e.bands.items; end = e.end } };
+    ghost view = { λ e. record { y = e.y; offsets = e.handed.offsets; first = e.first; previous = e.previous.items; planes = e.planes.items; present = e.present.items; above = e.above.items; bands = e.bands.items; end = e.end } };
 }
 
 impl PlaneEncoder {
@@ -63,18 +64,18 @@ impl PlaneEncoder {
         let plane = shape.rows() as usize * shape.columns() as usize;
         let bands = all_bands(alloc, params)?;
         let end = FileEncoder::new(alloc, params)?;
-        let most = (params.previous as usize + GROUP).min(all);
-        let kept = vec![in alloc; 0u16; most * plane]?;
-        let room = vec![in alloc; 0u16; GROUP.min(all) * plane]?;
+        let before = (params.previous as usize).min(all);
+        let previous = vec![in alloc; 0u16; before * plane]?;
+        let planes = vec![in alloc; 0u16; GROUP.min(all) * plane]?;
         let present = vec![in alloc; 0u16; row]?;
         let above = vec![in alloc; 0u16; row]?;
         Ok(PlaneEncoder {
             y: 0,
             first: 0,
-            kept,
+            previous,
+            planes,
             present,
             above,
-            room,
             bands,
             end,
             handed: HandedRows::none(),
@@ -114,10 +115,10 @@ impl PlaneEncoder {
         let PlaneEncoder {
             y: _,
             first: _,
-            kept: _,
+            previous: _,
+            planes: _,
             present: _,
             above: _,
-            room: _,
             bands: _,
             end,
             handed: _,
@@ -125,7 +126,7 @@ impl PlaneEncoder {
         end.finish()
     }
 
-    /// Keeps the next row, after those that are kept.
+    /// Keeps the next row, after those of its group.
     fn keep(&mut self, params: &Params, samples: &[u16])
         requires under_way { ArePlanesUnderWay params.now self.old }
         requires more { self.old.y < params.now.shape.bands * params.now.shape.rows }
@@ -136,11 +137,10 @@ impl PlaneEncoder {
         ensures within { self.new.y ≤ end_of_group params.now self.new.first * params.now.shape.rows }
         ensures handed { (self.new.offsets ≡ self.old.offsets ++ samples.now) × (self.new.y ≡ self.old.y + 1) }
     {
-        let base = u64::from(self.first.saturating_sub(params.previous));
         let columns = params.shape.columns() as usize;
-        let before = self.y - base * u64::from(params.shape.rows());
+        let before = self.y - u64::from(self.first) * u64::from(params.shape.rows());
         let start = before as usize * columns;
-        self.kept[start..start + columns].copy_from_slice(samples);
+        self.planes[start..start + columns].copy_from_slice(samples);
         self.handed = self.handed.and(samples);
         self.y += 1;
     }
@@ -162,22 +162,17 @@ impl PlaneEncoder {
     {
         let plane = params.shape.rows() as usize * params.shape.columns() as usize;
         let next = group_end(params, self.first);
-        let base = self.first.saturating_sub(params.previous);
-        let many = (next - base) as usize;
-        keep_planes(
+        turn_planes(
             params,
-            base as usize,
-            &self.kept[..many * plane],
-            many,
+            self.first as usize,
             &mut self.bands[self.first as usize..next as usize],
+            &mut self.planes,
+            &mut self.previous,
             &mut self.present,
             &mut self.above,
-            &mut self.room,
         );
         let sent = (next - self.first) as usize * plane;
-        self.end.put_all(&self.room[..sent])?;
-        let past = (next.saturating_sub(params.previous) - base) as usize;
-        self.kept.copy_within(past * plane..many * plane, 0);
+        self.end.put_all(&self.planes[..sent])?;
         self.first = next;
         Ok(())
     }

@@ -75,6 +75,8 @@ pub(crate) fn keep_row(
     requires at { AreAt params.now rows.now.image (rows.now.y * rows.now.image.shape.columns) bands.old }
     ensures kept { (k : ℕ) → k < length bands.old → row_start stretch k (start + rows.now.image.shape.columns) room.new
         ≡ row_start stretch k start room.old ++ row_of params.now rows.now.image (slice_index_or (bands_of bands.old) k 0 ∷ []) rows.now.y }
+    ensures left { (k i : ℕ) → start + rows.now.image.shape.columns ≤ i → i < stretch
+        → slice_index_or room.new (k * stretch + i) 0 ≡ slice_index_or room.old (k * stretch + i) 0 }
     ensures at { AreAt params.now rows.now.image ((rows.now.y + 1) * rows.now.image.shape.columns) bands.new }
     ensures same { bands_of bands.new ≡ bands_of bands.old }
 {
@@ -101,8 +103,9 @@ fn keep_pieces(
     requires inside { first + count ≤ stretch }
     requires some { others ≤ length bands.now }
     requires room { (length bands.now - others) * stretch ≤ length room.old }
-    ensures { (k : ℕ) (b : PredictorState) → k + others < length bands.now
+    ensures kept { (k : ℕ) (b : PredictorState) → k + others < length bands.now
         → row_start stretch k (first + count) room.new ≡ row_start stretch k first room.old ++ take count (slice_index_or bands.now (k + others) b).piece }
+    ensures left { (k i : ℕ) → first + count ≤ i → i < stretch → slice_index_or room.new (k * stretch + i) 0 ≡ slice_index_or room.old (k * stretch + i) 0 }
 {
     for k in 0..bands.len() - others {
         let start = k * stretch + first;

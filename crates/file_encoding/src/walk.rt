@@ -13,6 +13,7 @@ use crate::pieces::{RUN, predict_pieces, send_pieces};
 use crate::taker::Taker;
 use cube_core::cube::Cube;
 use cube_core::order::Order;
+use cube_core::shape::Shape;
 use group_prediction::room::GroupRoom;
 use header_bits::params::Params;
 use predict_core::band::Band;
@@ -161,7 +162,15 @@ pub fn planes_room(alloc: Global, params: &Params) -> Vec<u16>
     ensures seven { vec_len result ≤ 7 * (params.now.shape.rows * params.now.shape.columns) }
     ensures half { 2 * vec_len result ≤ params.now.shape.bands * (params.now.shape.rows * params.now.shape.columns) }
 {
-    room_of_planes(alloc, params, params.shape.bands().min(14) / 2)
+    room_of_planes(alloc, params, most_planes(params.shape))
+}
+
+/// Returns how many planes of residuals are kept where band comes after band: seven, or half of the image's where it has fewer than fourteen.
+pub(crate) fn most_planes(shape: Shape) -> u32
+    ensures seven { result ≤ 7 }
+    ensures half { 2 * result ≤ shape.bands }
+{
+    shape.bands().min(14) / 2
 }
 
 /// Returns such room for one of `predictors` threads that share the bands. It has room for eight planes where together they have at

@@ -68,7 +68,7 @@ of_last-rows-requires c =
     let offsets : c.and-handed.result.offsets ≡ rows ++ c.next_row.new.present.items = c.and-handed.ensures ∙ ap (λ v. rows ++ v) c.deref.ensures.value in
     let inside : c.loop-y.y < p.shape.rows = omega (arith, c.loop-y-test.true, c.rows-y-end.ensures.value) in
     rw (offsets, c.deref-in-loop-y.ensures.value, c.deref-in-loop-y-2.ensures.value)
-    (last_rows p 0 0 c.loop-y.y [] rows c.next_row.new.present.items was.size was.range lines.present inside
+    (last_rows p c.loop-y.y rows c.next_row.new.present.items was.size was.range lines.present inside
     c.next_row.new.above.items c.loop-y.present.items lines.first lines.later was.last)
 
 pub turn_row-requires-clause-image : goal.turn_row-requires-clause-image
@@ -109,11 +109,11 @@ loop-y-preserved c =
       turned = turned_now (next d) told.turned;
       at = at_back (next d) c.turn_row.new.bands told.at;
       same = told.same ∙ was.same;
-      size = subst (λ ns. length ns ≡ (y + 1) * row_size s) offsets (all_size (p d) 0 0 y [] (rows d) (row d) was.size was.range lines.present inside);
+      size = subst (λ ns. length ns ≡ (y + 1) * row_size s) offsets (all_size (p d) y (rows d) (row d) was.size was.range lines.present inside);
       range = subst (λ ns. AllByRecursion (λ v. v < 2 ^ (p d).kind.bits) ns) offsets
-          (all_range (p d) 0 0 y [] (rows d) (row d) was.size was.range lines.present inside);
+          (all_range (p d) y (rows d) (row d) was.size was.range lines.present inside);
       lines = subst (λ ns. HasFirstLines c.args.cube.now ns (y + 1)) offsets (first_now (next d));
-      last = λ some. row_last (p d) 0 0 y [] (rows d) (row d) was.size was.range lines.present inside ∙ ap₂ (λ n ns. drop (n * row_size s) ns) (sym same) offsets;
+      last = λ some. row_last (p d) y (rows d) (row d) was.size was.range lines.present inside ∙ ap₂ (λ n ns. drop (n * row_size s) ns) (sym same) offsets;
       present = lines.present;
       above = lines.above;
     }

@@ -3,7 +3,7 @@ use Rattle.std.proofs.lemmas.Bool.{cases_lt}
 use Rattle.std.proofs.lemmas.List.{get_or_default}
 use Rattle.std.proofs.lemmas.Nat.{mul-le}
 use Rattle.predict_core.specs.Following.{PredictorState}
-use Rattle.file_encoding.proofs.KeptRows.{row_more, row_before, rows_after}
+use Rattle.file_encoding.proofs.KeptRows.{past_piece, put_outside, row_more, row_before, rows_after}
 use Rattle.file_encoding.proofs.side_by_side.keep_pieces.Goals as goal
 
 pub loop-k-preserved : goal.loop-k-preserved
@@ -31,4 +31,8 @@ loop-k-preserved c =
             (copied ∙ told.value ∙ ap (λ (r : PredictorState). take c.args.count r.piece) band))
       ];
       left = λ k le. after k (omega (arith, le)) ∙ was.left k (omega (arith, le));
+      later = λ k j past inside.
+          put_outside start many c.loop-k.room numbers (k * stretch + j) fits (omega (arith, long, size))
+          (λ le. omega (arith, size, past_piece stretch i k c.args.first c.args.count j past inside le))
+          ∙ was.later k j past inside;
     }

@@ -36,10 +36,11 @@ loop-x-preserved c =
           let next = (piece_rest (column d k lt) c.loop-x.x c.min-count.result c.args.rows.now.image.shape.columns within).more in
           let many : k + 0 < length c.predict_pieces.new.bands = omega (arith, lt) in
           let place : c.args.start + (c.loop-x.x + c.min-count.result) ≡ c.args.start + c.loop-x.x + c.min-count.result = omega arith in
-          ap (λ i. row_start c.args.stretch k i c.keep_pieces.new.room) place ∙ c.keep_pieces.ensures k no_band many
+          ap (λ i. row_start c.args.stretch k i c.keep_pieces.new.room) place ∙ c.keep_pieces.ensures.kept k no_band many
           ∙ ap₂ (λ xs ys. xs ++ ys) (c.loop-x.invariant.kept k lt) (held d k lt)
           ∙ append_assoc (row_start c.args.stretch k c.args.start c.args.room.now) _ _
           ∙ ap (λ xs. row_start c.args.stretch k c.args.start c.args.room.now ++ xs) (sym next);
+      left = λ k i past inside. c.keep_pieces.ensures.left k i (omega (arith, past)) inside ∙ c.loop-x.invariant.left k i (omega (arith, past)) inside;
     }
 
 pub loop-x-init : goal.loop-x-init
@@ -50,6 +51,7 @@ loop-x-init c = record {
   kept = λ k lt.
       let place : c.args.start + 0 ≡ c.args.start = omega arith in
       ap (λ i. row_start c.args.stretch k i c.args.room.now) place ∙ sym (append-nil (row_start c.args.stretch k c.args.start c.args.room.now));
+  left = λ k i past inside. refl;
 }
 
 pub returns-clause-kept : goal.returns-clause-kept
@@ -57,3 +59,8 @@ unfolding row_of
 returns-clause-kept c = λ k lt.
     let all : c.loop-x.x ≡ c.args.rows.now.image.shape.columns = omega (arith, ap (λ s. s.columns) c.shape.ensures) in
     rw all at (c.loop-x.invariant.kept k lt)
+
+pub returns-clause-left : goal.returns-clause-left
+returns-clause-left c = λ k i past inside.
+    let all : c.loop-x.x ≡ c.args.rows.now.image.shape.columns = omega (arith, ap (λ s. s.columns) c.shape.ensures) in
+    c.loop-x.invariant.left k i (omega (arith, all, past)) inside

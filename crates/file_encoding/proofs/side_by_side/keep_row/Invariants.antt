@@ -13,6 +13,7 @@ invariant-loop-x l = record {
   same : bands_of l.bands ≡ bands_of l.initial.bands;
   kept : (k : ℕ) → k < length l.initial.bands → row_start l.stretch k (l.start + l.x) l.room ≡ row_start l.stretch k l.start l.initial.room
       ++ flat_map (λ i. column_of l.params l.rows.image (get_or (bands_of l.initial.bands) k 0 ∷ []) l.rows.y i) (upto l.x);
+  left : (k i : ℕ) → l.start + l.x ≤ i → i < l.stretch → get_or l.room (k * l.stretch + i) 0 ≡ get_or l.initial.room (k * l.stretch + i) 0;
 }
 
 abbrev pub decreases-loop-x : goal.decreases-loop-x

@@ -54,7 +54,7 @@ loop-x-preserved g c =
           let next = (piece_rest (column g d (k + 1)) c.loop-x.x c.min-count.result c.args.rows.now.image.shape.columns (within g d)).more in
           let many : k + 1 < length c.predict_pieces.new.bands = omega (arith, lt) in
           let place : c.args.start + (c.loop-x.x + c.min-count.result) ≡ c.args.start + c.loop-x.x + c.min-count.result = omega arith in
-          ap (λ i. row_start c.args.stretch k i c.keep_pieces.new.room) place ∙ c.keep_pieces.ensures k b many
+          ap (λ i. row_start c.args.stretch k i c.keep_pieces.new.room) place ∙ c.keep_pieces.ensures.kept k b many
           ∙ ap₂ (λ xs ys. xs ++ ys) (c.loop-x.invariant.kept k lt) (held g d (k + 1) b _ lt refl)
           ∙ append_assoc (row_start c.args.stretch k c.args.start c.args.room.now) _ _
           ∙ ap (λ xs. row_start c.args.stretch k c.args.start c.args.room.now ++ xs) (sym next);
