@@ -1,5 +1,5 @@
 -- Eight residuals of a column that are read at once.
-use Rattle.std.proofs.Common.{◌≡◌, ◌+◌, ◌^◌, ◌<◌, ◌≤◌, ℕ, zero, suc, Bool, List, length, get_or, set, refl, sym, ap, ◌∙◌, inl, inr, arith, subst}
+use Rattle.std.proofs.Common.{◌≡◌, ◌+◌, ◌-◌, ◌^◌, ◌<◌, ◌≤◌, ℕ, zero, suc, Bool, List, length, get_or, set, refl, sym, ap, ◌∙◌, inl, inr, arith, subst}
 use Rattle.std.proofs.lemmas.Bool.{cases_eq, ne_eqb}
 use Rattle.std.proofs.lemmas.List.{get_or-set_same, get_or-set_other, set-get_or}
 use Rattle.header_bits.specs.Bits.{Unread}
@@ -15,7 +15,7 @@ use Rattle.sample_adaptive.specs.Statistics.{next_statistics, code_parameter}
 use Rattle.sample_adaptive.specs.Taken.{CoderState, HasSettings, Reaches, counted, of_band, with_band}
 use Rattle.sample_adaptive.specs.Runs.{code_with}
 use Rattle.sample_adaptive.specs.Words.{IsCode}
-use Rattle.sample_adaptive.specs.WordParts.{InSteps, IsPartNext, IsWordNext, spelt_by}
+use Rattle.sample_adaptive.specs.WordParts.{InSteps, IsPartNext, IsPlainNext, IsWordNext, spelt_by, zeros_of}
 use Rattle.sample_adaptive.proofs.Columns.{code_seen}
 use Rattle.sample_adaptive.proofs.LaneStates.{lane_state, no_lanes, one_lane_more, lanes_count, later_lane}
 use Rattle.sample_adaptive.proofs.PlacesRead.{steps}
@@ -69,15 +69,17 @@ module _ (settings : CodeSettings) (z t index i counter : ℕ) (accumulators num
 
 -- ---- the words of eight bands, from their parts
 
-pub words_read : (settings : CodeSettings) (bands : List BandState) (at : ℕ) (ks numbers : List ℕ) (parts : WordParts) (n : ℕ) (bits left : List Bool)
-    → ((j : ℕ) → j < n → number ks j ≡ code_parameter settings.bits (state_of bands (at + j)).statistics) → ((j : ℕ) → j < n → number ks j + 2 ≤ settings.bits)
-    → ((j : ℕ) → j < n → (number parts.zeros j < settings.limit) × (spelt_by (number ks j) (number parts.zeros j) (number parts.endings j) < 2 ^ settings.bits))
-    → ((j : ℕ) → j < n → number numbers j ≡ spelt_by (number ks j) (number parts.zeros j) (number parts.endings j))
-    → InSteps (IsPartNext ks parts) n bits left → InSteps (IsWordNext settings bands at numbers) n bits left
-words_read settings bands at ks numbers parts n bits left value few lawful same h =
-    other_steps (IsPartNext ks parts) (IsWordNext settings bands at numbers) n bits left
+pub words_read : (settings : CodeSettings) (bands : List BandState) (at : ℕ) (ks ends numbers : List ℕ) (parts : WordParts) (n : ℕ) (bits left : List Bool)
+    → ((j : ℕ) → j < n → number ends j ≡ number ks j + 64) → ((j : ℕ) → j < n → number ks j ≡ code_parameter settings.bits (state_of bands (at + j)).statistics) → ((j : ℕ) → j < n → number ks j + 2 ≤ settings.bits)
+    → ((j : ℕ) → j < n → (zeros_of parts j < settings.limit) × (spelt_by (number ks j) (zeros_of parts j) (number parts.endings j) < 2 ^ settings.bits))
+    → ((j : ℕ) → j < n → number numbers j ≡ spelt_by (number ks j) (zeros_of parts j) (number parts.endings j))
+    → InSteps (IsPartNext ends parts) n bits left → InSteps (IsWordNext settings bands at numbers) n bits left
+words_read settings bands at ks ends numbers parts n bits left end value few lawful same h =
+    other_steps (IsPartNext ends parts) (IsWordNext settings bands at numbers) n bits left
     (λ j lt from to was count index.
     let code : Code = code_with settings (state_of bands (at + j)).statistics in
     let is_code : IsCode code = record { limit = settings.limit_in; k = omega (arith, few j lt, value j lt); bits = settings.bits_in.1 } in
-    rw (same j lt) (was count index code is_code (sym (value j lt)) (lawful j lt).0 (lawful j lt).1))
+    let k : number ends j - 64 ≡ number ks j = omega (arith, end j lt) in
+    let plain = subst (λ (n : ℕ). IsPlainNext n (zeros_of parts j) (number parts.endings j) from to) k was in
+    rw (same j lt) (plain count index code is_code (sym (value j lt)) (lawful j lt).0 (lawful j lt).1))
     h

@@ -3,7 +3,7 @@ use Rattle.std.proofs.Common.{◌≡◌, ℕ, zero, suc, ◌+◌, ◌-◌, ◌*�
 use Rattle.std.specs.Int.{rotate_left, w64}
 use Rattle.std.specs.Int.Count.{count_leading_zeros}
 use Rattle.std.proofs.lemmas.List.{get_or-set_same, get_or-set_other}
-use Rattle.std.proofs.lemmas.Nat.{and_mask}
+use Rattle.std.proofs.lemmas.Nat.{and_mask, leading_top}
 use Rattle.std.proofs.Math.Pow.{mod-mod-pow}
 use Rattle.header_bits.specs.Windows.{IsAhead}
 use Rattle.lanes.specs.Lanes.{number}
@@ -49,20 +49,24 @@ plain_next left most word zeros ending k below few ahead is within ends small = 
     let read = short_ahead count index c most left word zeros (ending % 2 ^ c.k) code below (omega (arith, few)) ahead is lt (omega (arith, long, within)) low whole in
     rw (long, ← same) read
 
+-- the place of the highest one tells as much as the zeros before it
+pub place_of : (word : ℕ) → 1 ≤ word → word < 2 ^ 64 → count_leading_zeros 64 word ≤ 63
+place_of word some below = let top = leading_top 64 word (omega (arith, some)) below in omega (arith, top.1)
+
 -- ---- parts of words, in lanes
 
 -- the parts with those of one word more
 abbrev pub with_part : WordParts → ℕ → ℕ → ℕ → WordParts
-with_part parts j zeros ending = record { zeros = set parts.zeros j zeros; endings = set parts.endings j ending }
+with_part parts j place ending = record { places = set parts.places j place; endings = set parts.endings j ending }
 
-pub one_part_more : (parameters : List ℕ) (parts : WordParts) (j zeros ending : ℕ) (bits mid left : List Bool) → j < length parts.zeros → j < length parts.endings
-    → InSteps (IsPartNext parameters parts) j bits mid → IsPlainNext (number parameters j) zeros ending mid left
-    → InSteps (IsPartNext parameters (with_part parts j zeros ending)) (j + 1) bits left
-one_part_more parameters parts j zeros ending bits mid left inside also before here =
-    one_step_more (IsPartNext parameters (with_part parts j zeros ending)) j bits mid left
-    (other_steps (IsPartNext parameters parts) (IsPartNext parameters (with_part parts j zeros ending)) j bits mid
+pub one_part_more : (ends : List ℕ) (parts : WordParts) (j place ending : ℕ) (bits mid left : List Bool) → j < length parts.places → j < length parts.endings
+    → InSteps (IsPartNext ends parts) j bits mid → IsPlainNext (number ends j - 64) (63 - place) ending mid left
+    → InSteps (IsPartNext ends (with_part parts j place ending)) (j + 1) bits left
+one_part_more ends parts j place ending bits mid left inside also before here =
+    one_step_more (IsPartNext ends (with_part parts j place ending)) j bits mid left
+    (other_steps (IsPartNext ends parts) (IsPartNext ends (with_part parts j place ending)) j bits mid
     (λ k lt from to was.
     let other : k ≡ j → ⊥ = λ e. omega (arith, e, lt) in
-    rw (get_or-set_other parts.zeros j k zeros 0 other, get_or-set_other parts.endings j k ending 0 other) was)
+    rw (get_or-set_other parts.places j k place 0 other, get_or-set_other parts.endings j k ending 0 other) was)
     before)
-    (rw (get_or-set_same parts.zeros j zeros 0 inside, get_or-set_same parts.endings j ending 0 also) here)
+    (rw (get_or-set_same parts.places j place 0 inside, get_or-set_same parts.endings j ending 0 also) here)

@@ -1,5 +1,5 @@
 -- Code words that are taken apart one after another, before it is known whether they are lawful.
-use Rattle.std.specs.Prelude.{ℕ, zero, suc, ◌≡◌, ◌+◌, ◌*◌, ◌%◌, ◌^◌, ◌<◌, Bool, List, Ok}
+use Rattle.std.specs.Prelude.{ℕ, zero, suc, ◌≡◌, ◌+◌, ◌-◌, ◌*◌, ◌%◌, ◌^◌, ◌<◌, Bool, List, Ok}
 use Rattle.lanes.specs.Lanes.{number}
 use Rattle.sample_adaptive.specs.declared.code_settings.CodeSettings.{CodeSettings}
 use Rattle.sample_adaptive.specs.declared.code_word.Code.{Code}
@@ -25,9 +25,13 @@ IsPlainNext k zeros ending bits left =
     (count index : ℕ) (c : Code) → IsCode c → c.k ≡ k → zeros < c.limit → spelt_by k zeros ending < 2 ^ c.bits
     → word_at count index c bits ≡ Ok (spelt_by k zeros ending, left)
 
--- the word in lane j comes first, by the code parameter in that lane
+-- how many zeros the word in lane j begins with, by the place of the one after them in a word of 64 bits
+abbrev pub zeros_of : WordParts → ℕ → ℕ
+zeros_of parts j = 63 - number parts.places j
+
+-- the word in lane j comes first, by the code parameter in that lane, to which 64 is added
 abbrev pub IsPartNext : List ℕ → WordParts → ℕ → List Bool → List Bool → Type 0
-IsPartNext parameters parts j bits left = IsPlainNext (number parameters j) (number parts.zeros j) (number parts.endings j) bits left
+IsPartNext ends parts j bits left = IsPlainNext (number ends j - 64) (zeros_of parts j) (number parts.endings j) bits left
 
 -- the code word of band at + j comes first, of the number in lane j
 abbrev pub IsWordNext : CodeSettings → List BandState → ℕ → List ℕ → ℕ → List Bool → List Bool → Type 0

@@ -1,12 +1,12 @@
 //! Eight code words of a column, read back at once: their code parameters are known before they are read.
 
-ghost use Rattle.std.specs.Prelude.{◌≡◌, ◌+◌, ◌*◌, ◌%◌, ◌^◌, ◌<◌, ◌≤◌, ℕ, length, take, slice_index_or, IsTrue, IfSome};
+ghost use Rattle.std.specs.Prelude.{◌≡◌, ◌+◌, ◌-◌, ◌*◌, ◌%◌, ◌^◌, ◌<◌, ◌≤◌, ℕ, length, take, slice_index_or, IsTrue, IfSome};
 ghost use Rattle.header_bits.specs.Bits.{Unread};
 ghost use Rattle.lanes.specs.Lanes.{number};
 ghost use Rattle.sample_adaptive.specs.BandStates.{AreBandStates, state_of, statistics_of};
 ghost use Rattle.sample_adaptive.specs.Statistics.{next_statistics};
 ghost use Rattle.sample_adaptive.specs.Taken.{CoderState, HasSettings, Reaches};
-ghost use Rattle.sample_adaptive.specs.WordParts.{InSteps, IsWordNext, spelt_by};
+ghost use Rattle.sample_adaptive.specs.WordParts.{InSteps, IsWordNext, spelt_by, zeros_of};
 
 use crate::band_state::BandState;
 use crate::code_settings::CodeSettings;
@@ -100,10 +100,11 @@ fn read_bands(
     let accumulators = u32x8::from_array(before.accumulators);
     let k = parameters(settings.bits, counter, accumulators);
     let mut parts = WordParts {
-        zeros: [0; 8],
+        places: [0; 8],
         endings: [0; 8],
     };
-    if !take_apart(settings.bits, &k.to_array(), &mut parts, reader) {
+    let ends = eight::sum(k, u32x8::splat(64)).to_array();
+    if !take_apart(settings.bits, &ends, &mut parts, reader) {
         return None;
     }
     let numbers = residuals_of(settings, k, parts)?;
@@ -120,15 +121,16 @@ fn read_bands(
 #[inline(always)]
 fn residuals_of(settings: CodeSettings, k: u32x8, parts: WordParts) -> Option<[u16; 8]>
     requires parameters { (j : ℕ) → j < 8 → number k j + 2 ≤ settings.bits }
-    ensures lawful { IfSome result (λ numbers. (j : ℕ) → j < 8 → (number parts.zeros j < settings.limit)
-        × (spelt_by (number k j) (number parts.zeros j) (number parts.endings j) < 2 ^ settings.bits)) }
-    ensures numbers { IfSome result (λ numbers. (j : ℕ) → j < 8 → number numbers j ≡ spelt_by (number k j) (number parts.zeros j) (number parts.endings j)) }
+    ensures lawful { IfSome result (λ numbers. (j : ℕ) → j < 8 → (zeros_of parts j < settings.limit)
+        × (spelt_by (number k j) (zeros_of parts j) (number parts.endings j) < 2 ^ settings.bits)) }
+    ensures numbers { IfSome result (λ numbers. (j : ℕ) → j < 8 → number numbers j ≡ spelt_by (number k j) (zeros_of parts j) (number parts.endings j)) }
 {
     let powers = eight::powers(k);
-    let zeros = u16x8::from_array(parts.zeros);
+    let places = eight::capped(u16x8::from_array(parts.places), 63);
+    let zeros = eight::less(63, eight::long(places));
     let low = rests(u32x8::from_array(parts.endings), powers);
-    let numbers = eight::sum(product(eight::long(zeros), powers), low);
-    if !are_lawful(settings, zeros, numbers) {
+    let numbers = eight::sum(product(zeros, powers), low);
+    if !are_lawful(settings, places, numbers) {
         return None;
     }
     Some(eight::short(numbers).to_array())
@@ -136,16 +138,16 @@ fn residuals_of(settings: CodeSettings, k: u32x8, parts: WordParts) -> Option<[u
 
 /// Returns whether each word begins with fewer zeros than an escape, and its residual has at most D bits.
 #[inline(always)]
-fn are_lawful(settings: CodeSettings, zeros: u16x8, numbers: u32x8) -> bool
-    ensures plain { IsTrue result → (j : ℕ) → j < 8 → number zeros j < settings.limit }
+fn are_lawful(settings: CodeSettings, places: u16x8, numbers: u32x8) -> bool
+    requires { (j : ℕ) → j < 8 → number places j ≤ 63 }
+    ensures plain { IsTrue result → (j : ℕ) → j < 8 → 63 - number places j < settings.limit }
     ensures few { IsTrue result → (j : ℕ) → j < 8 → number numbers j < 2 ^ settings.bits }
 {
     if !eight::are_all(eight::shifted(numbers, settings.bits), 0) {
         return false;
     }
-    let escape = u16x8::splat(settings.limit as u16);
-    let more = eight::short_sum(eight::capped(zeros, 32), u16x8::splat(1));
-    eight::are_within(more, escape)
+    let escape = 63 - settings.limit;
+    eight::are_within(u16x8::splat((escape + 1) as u16), places)
 }
 
 /// Returns the product of each two lanes, exact wherever it fits in 32 bits.

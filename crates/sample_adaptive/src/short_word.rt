@@ -134,7 +134,8 @@ pub(crate) fn take_short_word(
 /// Returns a word of the bits that are ahead with a one below them, so that it has a highest one whatever they are.
 #[inline(always)]
 pub(crate) fn with_one_below(word: u64) -> u64
-    ensures { (left : List Bool) (most : ℕ) → most ≤ 63 → IsAhead most left word → IsAhead most left result }
+    ensures some { 1 ≤ result }
+    ensures ahead { (left : List Bool) (most : ℕ) → most ≤ 63 → IsAhead most left word → IsAhead most left result }
 {
     word | 1
 }

@@ -1,4 +1,4 @@
-use Rattle.std.proofs.Common.{ℕ, ◌≡◌, ◌+◌, ◌/◌, ◌^◌, ◌≤◌, sym, ◌∙◌, arith}
+use Rattle.std.proofs.Common.{ℕ, ◌≡◌, ◌+◌, ◌-◌, ◌/◌, ◌^◌, ◌≤◌, sym, ◌∙◌, arith}
 use Rattle.std.proofs.lemmas.Nat.{pow_pos}
 use Rattle.std.proofs.Math.Nat.{lt-div-mul-add}
 use Rattle.lanes.specs.Lanes.{number}
@@ -15,7 +15,5 @@ returns-clause-few c = λ true j lt.
 pub returns-clause-plain : goal.returns-clause-plain
 returns-clause-plain c = λ true j lt.
     let limit : ℕ = c.args.settings.limit in
-    let held = c.capped.ensures j lt in
-    let more : number c.short_sum-more.result j ≡ number c.capped.result j + 1 = rw (splat 8 j 1 lt) at (c.short_sum-more.ensures j lt (omega (arith, splat 8 j 1 lt, held))) in
-    let within : number c.short_sum-more.result j ≤ limit = rw (splat 8 j limit lt) at (c.are_within.ensures true j lt) in
-    omega (arith, more, within, held, c.args.settings.limit_in)
+    let within : 63 - limit + 1 ≤ number c.args.places j = rw (splat 8 j (63 - limit + 1) lt) at (c.are_within.ensures true j lt) in
+    omega (arith, within, c.requires j lt, c.args.settings.limit_in)

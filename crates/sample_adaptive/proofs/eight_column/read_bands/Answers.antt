@@ -1,6 +1,7 @@
 use Rattle.std.proofs.Common.{ℕ, ◌≡◌, ◌+◌, ◌-◌, ◌/◌, ◌^◌, eqb, refl, sym, ap, ap₂, ◌∙◌, arith}
 use mir.Val.{bool_byte}
 use Rattle.lanes.specs.Lanes.{number}
+use Rattle.lanes.proofs.Plain.{splat}
 use Rattle.sample_adaptive.specs.declared.statistics.Statistics.{Statistics}
 use Rattle.sample_adaptive.specs.BandStates.{state_of}
 use Rattle.sample_adaptive.specs.Statistics.{code_parameter}
@@ -36,8 +37,9 @@ returns-clause-statistics c j lt =
 pub returns-clause-words : goal.returns-clause-words
 returns-clause-words c =
     let bits : ℕ = c.args.settings.bits in
-    words_read c.args.settings c.args.bands.now c.args.at c.parameters-k.result c.in_ok-numbers.numbers c.take_apart.new.parts 8 c.args.reader.now.left
+    words_read c.args.settings c.args.bands.now c.args.at c.parameters-k.result c.sum.result c.in_ok-numbers.numbers c.take_apart.new.parts 8 c.args.reader.now.left
     c.take_apart.new.reader.left
+    (λ j lt. rw (splat 8 j 64 lt) at (c.sum.ensures j lt (omega (arith, splat 8 j 64 lt, c.parameters-k.ensures.most j lt, c.args.settings.bits_in))))
     (λ j lt. c.parameters-k.ensures.value j lt ∙ ap₂ (λ (p q : ℕ). code_parameter bits (record { counter = p; accumulator = q }))
     (sym (c.are_all.ensures c.if-not-are_all.false j lt) ∙ c.gathered-before.ensures.counters j lt) (c.gathered-before.ensures.accumulators j lt))
     c.parameters-k.ensures.most

@@ -14,7 +14,7 @@ returns-clause-reads c = λ index.
     let left = c.args.reader.now.left in
     rw (c.skip.ensures.left, c.from-2.ensures, c.from.ensures, c.rotate_left.ensures)
     (word_taken c.args.reader.now.count index c.args.code left ahead.result (count_leading_zeros 64 ahead.result) c.args.power c.args.most c.requires.code
-    ahead.type_inv (omega (arith, c.requires.few)) (ahead.ensures left c.args.most (omega (arith, c.requires.few)) c.requires.ahead) refl c.requires.power
+    ahead.type_inv (omega (arith, c.requires.few)) (ahead.ensures.ahead left c.args.most (omega (arith, c.requires.few)) c.requires.ahead) refl c.requires.power
     c.if-zeros-code.false c.if-length-most.false c.requires.k c.requires.most)
 
 pub returns-clause-below : goal.returns-clause-below
@@ -30,4 +30,4 @@ returns-clause-ahead c = λ more few h.
     let short : length ≤ c.args.most = c.if-length-most.false in
     rw (c.skip.ensures.left, c.from-2.ensures, c.rotate_left.ensures)
     (ahead_turned more length left ahead.result (omega arith) (omega (arith, few, short)) (omega (arith, few, short)) ahead.type_inv
-    (ahead.ensures left (more + length) (omega (arith, few, short)) (fewer_ahead (more + c.args.most) (more + length) left c.args.bits.now (omega (arith, short)) h)))
+    (ahead.ensures.ahead left (more + length) (omega (arith, few, short)) (fewer_ahead (more + c.args.most) (more + length) left c.args.bits.now (omega (arith, short)) h)))

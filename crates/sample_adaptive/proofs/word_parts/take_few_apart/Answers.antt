@@ -18,10 +18,10 @@ loop-j-preserved c =
           let rest : 57 - (before + l) ≡ 57 - before - l = omega arith in
           rw (rest, ← there) (part.ensures.rest (drop before left) (57 - before) (omega (arith, within)) (omega arith) (was.ahead (omega (arith, within))));
       words = λ within bits h.
-          rw (← there) (one_part_more c.args.parameters.now parts j part.result.zeros part.result.ending bits (drop before left) (drop l (drop before left))
-          (omega (arith, was.zeros, c.loop-j-test.true, c.requires.within)) (omega (arith, was.endings, c.loop-j-test.true, c.requires.within)) (was.words (omega (arith, within)) bits h)
+          rw (← there) (one_part_more c.args.ends.now parts j part.result.place part.result.ending bits (drop before left) (drop l (drop before left))
+          (omega (arith, was.places, c.loop-j-test.true, c.requires.within)) (omega (arith, was.endings, c.loop-j-test.true, c.requires.within)) (was.words (omega (arith, within)) bits h)
           (part.ensures.word (drop before left) (57 - before) (omega (arith, within)) (omega arith) (was.ahead (omega (arith, within)))));
-      zeros = length-set parts.zeros j part.result.zeros ∙ was.zeros;
+      places = length-set parts.places j part.result.place ∙ was.places;
       endings = length-set parts.endings j part.result.ending ∙ was.endings;
       few = omega (arith, was.few, part.ensures.few, c.loop-j.auto.j);
     }

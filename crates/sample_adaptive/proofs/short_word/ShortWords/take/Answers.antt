@@ -21,7 +21,7 @@ returns-clause-reads c = λ index.
     let length : count_leading_zeros 64 ahead.result + s.after ≡ count_leading_zeros 64 ahead.result + 1 + s.code.k = omega (arith, s.after_is) in
     rw (c.skip.ensures.left, c.from-2.ensures, c.from.ensures, c.rotate_left.ensures, length)
     (short_taken c.args.reader.now.count index s.code left ahead.result (count_leading_zeros 64 ahead.result) s.power s.most s.zeros s.code_is ahead.type_inv (omega (arith, s.most_in))
-    (ahead.ensures left s.most (omega (arith, s.most_in)) c.requires) refl s.power_is c.if-zeros-self.false s.within_limit s.within_length s.within_bits)
+    (ahead.ensures.ahead left s.most (omega (arith, s.most_in)) c.requires) refl s.power_is c.if-zeros-self.false s.within_limit s.within_length s.within_bits)
 
 pub returns-clause-ahead : goal.returns-clause-ahead
 returns-clause-ahead c = λ more few h.
@@ -32,4 +32,4 @@ returns-clause-ahead c = λ more few h.
     let same : count_leading_zeros 64 ahead.result + c.args.self.after ≡ length = omega (arith, c.args.self.after_is) in
     rw (c.skip.ensures.left, c.from-2.ensures, c.rotate_left.ensures, same)
     (ahead_turned more length left ahead.result (omega arith) (omega (arith, few, short)) (omega (arith, few, short)) ahead.type_inv
-    (ahead.ensures left (more + length) (omega (arith, few, short)) (fewer_ahead (more + c.args.self.most) (more + length) left c.args.bits.now (omega (arith, short)) h)))
+    (ahead.ensures.ahead left (more + length) (omega (arith, few, short)) (fewer_ahead (more + c.args.self.most) (more + length) left c.args.bits.now (omega (arith, short)) h)))
