@@ -64,16 +64,23 @@ pub(crate) fn take_piece(
             taken += together;
             continue;
         }
-        let some = take_singly(
+        // Copies are passed on, so that all others stay in registers.
+        let mut rest_statistics = *statistics;
+        let mut rest_words = *words;
+        let mut rest = reader.fork();
+        let some = take_few_rarely(
             settings,
             thresholds,
             together,
-            statistics,
-            words,
-            reader,
+            &mut rest_statistics,
+            &mut rest_words,
+            &mut rest,
             i + taken,
             residuals,
         );
+        *statistics = rest_statistics;
+        *words = rest_words;
+        *reader = rest;
         taken += some;
         if some < together {
             *statistics = piece_ended(settings, *statistics);
@@ -148,56 +155,6 @@ fn take_together(
             settings, thresholds, 3, statistics, words, reader, i, residuals,
         )
     }
-}
-
-/// `take_few`, apart from the loop over words that share a code parameter, which is shorter so.
-#[inline(always)]
-fn take_singly(
-    settings: CodeSettings,
-    thresholds: &[u32],
-    few: usize,
-    statistics: &mut Statistics,
-    words: &mut ShortWords,
-    reader: &mut BitReader,
-    i: usize,
-    residuals: &mut [u16],
-) -> usize
-    requires thresholds { AreThresholds settings.bits settings.rescaling.size thresholds.now }
-    requires statistics { AreStatistics settings.rescaling.size statistics.old }
-    requires words { AreWordsOf settings words.old.code }
-    requires ahead { few * words.old.most ≤ 57 }
-    requires before { statistics.old.counter + few ≤ 2 ^ settings.rescaling.size }
-    requires inside { i + few ≤ length residuals.old }
-    requires long { length residuals.old ≤ 2 ^ 16 }
-    ensures taken { (v : CoderState) (z t k index : ℕ) (first : Unread) → z < length v.bands → HasSettings v settings.bits settings.limit settings.rescaling.size
-        → 0 < t + k → Reaches (λ i. z) (λ i. t + i) k index i v (with_band v z statistics.old) first reader.old residuals.old
-        → Reaches (λ i. z) (λ i. t + i) k index (i + result) v (with_band v z (at_piece_end settings.rescaling.size statistics.new)) first reader.new residuals.new }
-    ensures few { result ≤ few }
-    ensures counter { statistics.new.counter ≡ statistics.old.counter + result }
-    ensures most { result ≡ few → words.new.most ≡ words.old.most }
-    ensures statistics { AreCounted settings.rescaling.size statistics.new }
-    ensures words { AreWordsOf settings words.new.code }
-    ensures count { reader.new.count ≡ reader.old.count }
-    ensures long { length residuals.new ≡ length residuals.old }
-{
-    // Copies are passed on, so that all others stay in registers.
-    let mut rest_statistics = *statistics;
-    let mut rest_words = *words;
-    let mut rest = reader.fork();
-    let taken = take_few_rarely(
-        settings,
-        thresholds,
-        few,
-        &mut rest_statistics,
-        &mut rest_words,
-        &mut rest,
-        i,
-        residuals,
-    );
-    *statistics = rest_statistics;
-    *words = rest_words;
-    *reader = rest;
-    taken
 }
 
 /// Reads one residual or a few, none of which is the band's first, as long as 57 bits are left and begin with a code word, into

@@ -78,7 +78,7 @@ pub(crate) fn take_few(
     taken
 }
 
-/// `take_few` where its words seldom come.
+/// `take_few`, apart from the loop over words that share a code parameter, which is shorter so.
 #[cold]
 #[inline(never)]
 pub(crate) fn take_few_rarely(

@@ -1,4 +1,4 @@
-use Rattle.std.proofs.Common.{◌≡◌, ◌+◌, ◌-◌, ◌%◌, ℕ, refl, ap, sym, ◌∙◌, arith}
+use Rattle.std.proofs.Common.{◌≡◌, ◌+◌, ◌-◌, ◌%◌, ℕ, refl, ap, ◌∙◌, arith}
 use Rattle.std.specs.Int.{rotate_left, w64}
 use Rattle.std.specs.Int.Count.{count_leading_zeros}
 use Rattle.sample_adaptive.proofs.ShortWords.{ahead_turned}
