@@ -3,6 +3,7 @@ pub mod Coded
 pub mod Inverted
 pub mod ErrorNumbers
 pub mod WaveParts
+pub mod WaveOffsets
 pub mod WaveLanes
 pub mod WaveTiles
 pub mod WaveForms

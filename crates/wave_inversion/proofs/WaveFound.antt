@@ -9,7 +9,6 @@ use Rattle.lanes.specs.Lanes.{place}
 use Rattle.band_lanes.specs.Rows.{weights_of}
 use Rattle.sample_prediction.specs.Bounds.{AllWithin}
 use Rattle.sample_prediction.specs.Chain.{AreWeightsAt}
-use Rattle.sample_prediction.specs.Prediction.{weight_vector}
 use Rattle.sample_prediction.specs.declared.predictor.Predictor.{Predictor}
 use Rattle.predict_core.specs.declared.settings.Settings.{Settings}
 use Rattle.wave_inversion.specs.declared.found.Found.{Found}
@@ -18,9 +17,10 @@ use Rattle.wave_inversion.specs.Inversion.{IsInverting, band_at}
 use Rattle.wave_inversion.specs.Wave.{AreOffsetRows}
 use Rattle.wave_inversion.specs.WaveForms.{WaveForm}
 use Rattle.wave_inversion.specs.WaveLanes.{AreLanes, AreInStep, AreToBegin, column_at}
-use Rattle.wave_inversion.specs.WaveTiles.{AreCollected, AreFound, ended, offset_in, rows_at_end}
+use Rattle.wave_inversion.specs.WaveTiles.{AreCollected, AreFound, ended, rows_at_end}
 use Rattle.wave_inversion.proofs.WaveEnds.{at_end, whole_far, offsets_found, weights_found}
-use Rattle.wave_inversion.proofs.WaveTiles.{IsBegun, lanes_begun, start_begun, to_begin, constants_at, same_made, count_is, enough_at}
+use Rattle.wave_inversion.proofs.WaveForms.{constants_at}
+use Rattle.wave_inversion.proofs.WaveTiles.{IsBegun, lanes_begun, start_begun, to_begin, same_made, count_is, enough_at}
 
 module _ {q : ℕ} {f : WaveForm} {c : Image} {bands : List PredictorState} {first y origin last : ℕ} {base : Settings} {above numbers lower own weights : List (List ℤ)}
     (k : IsBegun q f c bands first y origin last base above numbers lower own weights) where

@@ -12,7 +12,7 @@ use Rattle.lanes.specs.Lanes.{place}
 use Rattle.band_lanes.specs.Rows.{weights_of}
 use Rattle.sample_prediction.specs.Chain.{AreWeightsAt}
 use Rattle.sample_prediction.specs.Differences.{central_difference}
-use Rattle.sample_prediction.specs.Predictor.{predictor_of, previous_bands, component_count}
+use Rattle.sample_prediction.specs.Predictor.{predictor_of, component_count}
 use Rattle.sample_prediction.specs.Prediction.{weight_vector}
 use Rattle.sample_prediction.specs.Residual.{mapped_residual}
 use Rattle.sample_prediction.specs.Weights.{step_exponent}
@@ -22,36 +22,13 @@ use Rattle.predict_core.specs.Following.{PredictorState}
 use Rattle.predict_core.specs.BandLanes.{HasWeights}
 use Rattle.wave_inversion.specs.Inversion.{IsInverting, IsBandInverted, AreAhead, band_at}
 use Rattle.predict_core.specs.Offsets.{number_at}
-use Rattle.wave_inversion.specs.Wave.{sum_by, sum_at}
+use Rattle.wave_inversion.specs.Wave.{sum_by}
 use Rattle.wave_inversion.specs.WaveForms.{WaveForm}
 use Rattle.wave_inversion.specs.WaveLanes.{AreLanes, AreInStep, AreToBegin, column_at, first_column}
 use Rattle.wave_inversion.specs.WaveRows.{AreFilled}
 use Rattle.wave_inversion.specs.WaveTiles.{IsFormOf, StandAsWave}
-use Rattle.wave_inversion.proofs.WaveLanes.{central_told}
-
--- at most 15 previous bands have at most 18 components
-pub counted : (reduced : Bool) (z previous : ℕ) → previous ≤ 15 → (if reduced then min z previous else 3 + min z previous) ≤ 18
-counted true z previous h = omega (arith, h)
-counted false z previous h = omega (arith, h)
-
--- the constants of one band are those of each, but for its number
-abbrev pub constants_at : Settings → ℕ → Settings
-constants_at s z = record {
-  predictor = s.predictor;
-  range = s.range;
-  columns = s.columns;
-  band = z;
-  near = previous_bands s.predictor z;
-  count = component_count s.predictor z;
-  west = s.west;
-  lawful = s.lawful;
-  columns_in = s.columns_in;
-  near_is = refl;
-  count_is = refl;
-  few = counted s.predictor.reduced z s.predictor.previous s.lawful.few;
-  west_is = s.west_is;
-  wide = s.wide;
-}
+use Rattle.wave_inversion.proofs.WaveForms.{constants_at}
+use Rattle.wave_inversion.proofs.WaveOffsets.{central_told}
 
 -- what is known before step 8
 pub record IsBegun (q : ℕ) (f : WaveForm) (c : Image) (bands : List PredictorState) (first y origin last : ℕ) (base : Settings)

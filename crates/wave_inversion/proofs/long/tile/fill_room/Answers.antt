@@ -1,4 +1,4 @@
-use Rattle.std.proofs.Common.{◌≡◌, ◌∙◌, ◌+◌, ◌-◌, ◌^◌, ◌<◌, ◌≤◌, ℕ, pos, ◌-ℤ◌, Some, List, min, length, take, drop, ap, subst, arith}
+use Rattle.std.proofs.Common.{◌≡◌, ◌^◌, ℕ, pos, ◌-ℤ◌, ap, subst, arith}
 use Rattle.std.proofs.lemmas.Int.{ints}
 use Rattle.wave_inversion.specs.declared.long.form.LongForm.{LongForm}
 use Rattle.wave_inversion.specs.Wave.{AreOffsetRows}

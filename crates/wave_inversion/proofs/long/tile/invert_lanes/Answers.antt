@@ -1,4 +1,4 @@
-use Rattle.std.proofs.Common.{◌≡◌, ◌+◌, length, sym, refl, arith}
+use Rattle.std.proofs.Common.{◌≡◌, length, sym, refl, arith}
 use Rattle.std.proofs.lemmas.Option.{slice_get_read, get_or_from_slice_get}
 use Rattle.predict_core.specs.Following.{no_band}
 use Rattle.wave_inversion.specs.Inversion.{band_at}
