@@ -12,6 +12,7 @@ use group_prediction::room::GroupRoom;
 use header_bits::params::Params;
 use predict_core::band::Band;
 use predict_core::rows::Rows;
+use std::simd::prelude::*;
 
 /// The greatest number of residuals of several bands that are passed on at once.
 pub(crate) const RUN: usize = 2048;
@@ -55,13 +56,26 @@ fn gather(i: usize, bands: &[Band], residuals: &mut [u16])
     for k in 0..eights {
         let first = k * GROUP;
         let next = first + GROUP;
-        gather_each(i, &bands[first..next], &mut residuals[first..next]);
+        gather_eight(i, &bands[first..next], &mut residuals[first..next]);
     }
     let first = eights * GROUP;
     gather_each(i, &bands[first..], &mut residuals[first..]);
 }
 
-/// `gather`, one after another: of eight bands the compiler makes eight loads and stores, and no loop.
+/// `gather` for eight bands, whose residuals are put side by side first, and written at once.
+#[inline(always)]
+fn gather_eight(i: usize, bands: &[Band], residuals: &mut [u16])
+    requires place { i < 64 }
+    requires eight { length bands.now ≡ 8 }
+    requires room { length residuals.old ≡ 8 }
+    ensures { residuals.new ≡ held_at bands.now i }
+{
+    let mut column = [0; GROUP];
+    gather_each(i, bands, &mut column);
+    u16x8::from_array(column).copy_to_slice(residuals);
+}
+
+/// `gather`, one after another: of eight bands the compiler makes eight loads, and no loop.
 #[inline(always)]
 #[tactic(auto, using(std::proofs::lemmas::List::map_more))]
 fn gather_each(i: usize, bands: &[Band], residuals: &mut [u16])
