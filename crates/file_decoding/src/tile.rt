@@ -15,6 +15,7 @@ use cube_core::fault::Fault;
 use cube_core::order::{Order, Place};
 use header_bits::bit_reader::BitReader;
 use header_bits::params::Params;
+use std::simd::prelude::*;
 
 /// The greatest number of columns of a tile.
 pub(crate) const COLUMNS: usize = 64;
@@ -126,6 +127,10 @@ impl Tile {
     {
         cube.prove_is_cube();
         let Place { z, y, x } = self.place;
+        if self.bands == 1 {
+            cube.set_run(z, y, x, numbers);
+            return;
+        }
         let mut eight = [[0; COLUMNS]; EIGHT];
         let mut b = 0;
         while b < self.bands {
@@ -183,19 +188,15 @@ impl Tile {
         ensures copied { (i : ℕ) → i < self.now.columns → slice_index result i ≡ slice_index deltas.now (i * self.now.bands + band) }
     {
         let mut run = [0; COLUMNS];
-        if self.bands == 1 {
-            run[..self.columns].copy_from_slice(deltas);
-        } else {
-            for i in 0..self.columns {
-                run[i] = deltas[i * self.bands + band];
-            }
+        for i in 0..self.columns {
+            run[i] = deltas[i * self.bands + band];
         }
         run
     }
 }
 
 /// Writes the numbers of a column of eight bands at place `i` of their lines.
-// All eight at known distances: it is a load and a store each.
+// All eight are loaded at once, and stored at known distances: a store each.
 #[inline(always)]
 fn put_column(column: &[u16], i: usize, lines: &mut [[u16; COLUMNS]; EIGHT])
     requires place { i < 64 }
@@ -203,8 +204,9 @@ fn put_column(column: &[u16], i: usize, lines: &mut [[u16; COLUMNS]; EIGHT])
     ensures here { (b : ℕ) → b < 8 → number_in lines.new b i ≡ slice_index column.now b }
     ensures others { (b k : ℕ) → k ≢ i → number_in lines.new b k ≡ number_in lines.old b k }
 {
+    let numbers = u16x8::from_slice(column).to_array();
     for b in 0..EIGHT {
-        put_number(column[b], b, i, lines);
+        put_number(numbers[b], b, i, lines);
     }
 }
 

@@ -13,7 +13,7 @@ pub loop-b-preserved : goal.loop-b-preserved
 loop-b-preserved c =
     let long : length (take c.args.self.now.columns c.run_of-run.result) ≡ c.args.self.now.columns =
     omega (arith, length-take {A = ℕ}, c.run_of-run.ensures.long, c.requires.few.0) in record {
-      stored = stored_more c.loop-b.invariant.stored c.set_run.ensures long c.loop-b-test.true
+      stored = stored_more c.loop-b.invariant.stored c.set_run-else-b-self.ensures long c.loop-b-test.true
           (λ i lt. get_or-take c.args.self.now.columns c.run_of-run.result i 0 lt ∙ c.run_of-run.ensures.copied i lt)
           (λ i b column band. record { band = omega (arith, band, c.requires.inside); row = c.requires.place.row; column = omega (arith, column, c.requires.columns) });
       within = omega (arith, c.loop-b-test.true);
