@@ -3,6 +3,7 @@
 
 mod band_lines;
 mod chain;
+mod directions;
 mod fill;
 mod finish;
 mod lines;

@@ -2,7 +2,7 @@ use Rattle.std.proofs.Common.{◌≡◌, slice_index, ◌∙◌, ap, refl, arith
 use Rattle.std.proofs.lemmas.List.{get_or-take}
 use Rattle.group_prediction.specs.GroupLines.{IsToldDifference}
 use Rattle.group_prediction.proofs.GroupLines.{taken_at}
-use Rattle.group_prediction.proofs.band_lines.fill_three.Goals as goal
+use Rattle.group_prediction.proofs.directions.fill_three.Goals as goal
 
 -- the same of another number and of the same offset
 moved : (offset other : ℕ) (sum d e : ℤ) → offset ≡ other → e ≡ d → IsToldDifference offset sum d → IsToldDifference other sum e

@@ -10,8 +10,8 @@ use Rattle.sample_prediction.proofs.Directions.{directional_first, directional_l
 use Rattle.group_prediction.proofs.GroupLines.{directional_small, difference_told}
 use Rattle.predict_core.proofs.Components.{three}
 use Rattle.group_prediction.specs.GroupLines.{IsToldDifference}
-use Rattle.group_prediction.proofs.band_lines.fill_directions.Goals as goal
-use Rattle.group_prediction.proofs.band_lines.fill_directions.Goals.{After-fill_three}
+use Rattle.group_prediction.proofs.directions.fill_directions.Goals as goal
+use Rattle.group_prediction.proofs.directions.fill_directions.Goals.{After-fill_three}
 
 pub returns-then-y-eq0 : goal.returns-then-y-eq0
 returns-then-y-eq0 c = λ i k l h m.
