@@ -84,7 +84,7 @@ class Room(Workroom):
 
 
 SIZES = ["--columns", 40, "--rows", 9, "--bands", 6, "--bits", 12]
-# The same raw bytes as a scene of enough bands to be coded row by row in band sequential order: twice the 11 planes that are kept, or more.
+# The same raw bytes as a scene of enough bands to be coded row by row in band sequential order: three times the 11 planes that are kept, or more.
 MANY = ["--columns", 6, "--rows", 8, "--bands", 45, "--bits", 12]
 # The same raw bytes as a scene of enough rows for residuals to take the samples' place, and as one of so few that planes of residuals are kept instead.
 HIGH = ["--columns", 24, "--rows", 18, "--bands", 5, "--bits", 12]

@@ -142,7 +142,7 @@ def in_place(room):
     0.31 of the raw bytes, and its memory at most an eighth more. An encoder that keeps planes, of half of the bands and at most seven, does without them
     where they can't be had; so each limit has room for them, but not for the file, too. The last limit is the bound that holds of every scene."""
     for shape, layout, times in (
-        ((1_024, 2_480, 21), "bsq", 1.35),
+        ((1_024, 1_600, 32), "bsq", 1.35),
         ((1_024, 1_024, 64), "bil", 1.35),
         ((1_024, 3_072, 16), "bip", 1.44),
         ((1_024, 6_144, 8), "bsq", 1.5),

@@ -119,10 +119,10 @@ def items(size: int, signed: bool, byteorder: str) -> str:
 
 
 def goes_by_rows(params: Params, interleave: str) -> bool:
-    """Returns whether a scene is coded row by row: where order and layout both interleave the bands, or neither does and what is kept is at most half of
+    """Returns whether a scene is coded row by row: where order and layout both interleave the bands, or neither does and what is kept is at most a third of
     its planes."""
     if params.order == "bsq" and interleave == "bsq":
-        return 2 * (params.previous + KEPT_PLANES) <= params.bands
+        return 3 * (params.previous + KEPT_PLANES) <= params.bands
     return params.order != "bsq" and interleave != "bsq"
 
 

@@ -57,12 +57,12 @@ fn has_short_rows(params: &Params) -> bool {
     shape.rows() >= FEWEST_ROWS && row <= MOST_SAMPLES
 }
 
-/// Returns whether the planes that are kept in band-sequential order are at most half of the image, and not too much.
+/// Returns whether the planes that are kept in band-sequential order are at most a third of the image, and not too much.
 fn has_few_planes(params: &Params) -> bool {
     let shape = params.shape;
     let kept = u64::from(params.previous) + PLANES;
     let plane = u64::from(shape.rows()) * u64::from(shape.columns());
-    2 * kept <= u64::from(shape.bands()) && kept * plane <= MOST_PLANE_SAMPLES
+    3 * kept <= u64::from(shape.bands()) && kept * plane <= MOST_PLANE_SAMPLES
 }
 
 /// Returns the file of the cube whose raw bytes the source has. Beside the file, it keeps the rows, or the planes, that prediction reads.

@@ -16,8 +16,8 @@ use std::process::Abort;
 /// The number of the scene's samples. It has two columns, eight rows, and 43 bands: five groups of eight that are predicted together, and one of three.
 const COUNT: usize = 688;
 
-/// Numbers of previous bands with which the scene is coded while it is read: at most 13 + 8 planes are kept, and these are no more than half of 43.
-const PREVIOUS: [u32; 4] = [0, 1, 3, 13];
+/// Numbers of previous bands with which the scene is coded while it is read: at most 6 + 8 planes are kept, and these are no more than a third of 43.
+const PREVIOUS: [u32; 4] = [0, 1, 3, 6];
 
 /// Returns the sample of band `z` at row `y`, column `x`: seven bits, which grow along each axis.
 fn sample(z: usize, y: usize, x: usize) -> u8 {
