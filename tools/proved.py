@@ -9,6 +9,7 @@ prove it again. The stamp is a sum of the sources of a library and of those belo
 a source has changed since `before`, none is written, and where a toolchain has no such function, all is proved again.
 """
 
+import functools
 import glob
 import importlib.util
 import json
@@ -30,6 +31,8 @@ def stamps():
     rtlib = importlib.util.module_from_spec(spec)
     sys.modules["rtlib"] = rtlib
     spec.loader.exec_module(rtlib)
+    # A stamp is made from those of the libraries below, which would be made again and again.
+    rtlib.Crate.stamp = functools.cache(rtlib.Crate.stamp)
     return {it.rlib: it.stamp() for it in rtlib.crates_below(TOP) if it.makes_rlib()}
 
 
