@@ -6,7 +6,8 @@
 `tests/refuse.c`, which this script compiles with `cc`, is loaded before the program. It refuses the first allocation, then the second,
 and so on, until a run makes no such call. Each run with a refusal either ends with status 3 and writes nothing, and its line
 reports lack of memory or a refused thread (without memory for the line there is none); or it does without the memory: then its output is
-that of an undisturbed run, and it asked for no more than that, as a run would that hides a refusal and asks again.
+that of an undisturbed run, and it asked for no more than that, as a run would that hides a refusal and asks again. One call alone is made
+up for: without room for all words at once, the standard library collects them one by one.
 
 Reads and writes are refused in the same way, and are split into pieces. A refused read ends with `Read` and nothing written, and a
 refused write with `Write` and the bytes that were written before it. Pieces as small as a byte change nothing. Then come files that
@@ -150,7 +151,7 @@ def each_growth(room, name, words, lines):
 
     Returns the number of allocations, and the number of those whose refusal is reported as that of a thread. A thread is reported where
     threads are started, and nowhere else: before and after that, lack of memory is reported."""
-    wanted, said, threads = room.run(words), [], 0
+    wanted, said, threads, made_up = room.run(words), [], 0, []
     asked = statistics.median(all_asked(room, words, 0, 5, PROGRAM))
     room.expect(name, wanted[:2] == (DONE, b"") and wanted[2], wanted)
     for nth in range(1, MOST):
@@ -158,6 +159,7 @@ def each_growth(room, name, words, lines):
         if not room.met():
             room.expect(f"{name}: nothing refused", found == wanted, found)
             room.expect(f"{name}: what is reported in turn", said == ([MEMORY, THREAD, MEMORY] if THREAD in lines else [MEMORY]), said)
+            room.expect(f"{name}: refusals that are made up for", len(made_up) <= 1, made_up)
             return nth - 1, threads
         status, line, written = found
         threads += line == THREAD
@@ -165,8 +167,9 @@ def each_growth(room, name, words, lines):
         if status == REFUSED and line and said[-1:] != [line]:
             said.append(line)
         # The program can do without memory that only makes it faster.
-        needless = found == wanted and asks_no_more(room, words, nth, asked, PROGRAM)
-        room.expect(f"{name}: call {nth} refused", refused or needless, found)
+        room.expect(f"{name}: call {nth} refused", refused or found == wanted, found)
+        if found == wanted and not asks_no_more(room, words, nth, asked, PROGRAM):
+            made_up.append(nth)
     room.expect(f"{name}: more than {MOST} growths", False, None)
     return MOST, threads
 

@@ -52,6 +52,9 @@ pub fn run_compress<S: Source, K: Sink>(
 }
 
 /// Returns the file of the cube whose raw bytes the source has.
+///
+/// It isn't inlined: the rooms of the bands that are predicted side by side stand on the stack, which no other command should need.
+#[inline(never)]
 fn file_of_source<S: Source>(
     alloc: Global,
     source: &mut S,
