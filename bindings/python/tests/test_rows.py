@@ -116,7 +116,7 @@ class Rows(FolderTest):
     def test_what_goes_by_rows(self):
         for sizes, options, interleave, wanted in (
             (SIZES, {"order": "bi"}, "bil", True), (SIZES, {"order": "bi"}, "bip", True), (MANY, {"order": "bi"}, "bsq", False), (MANY, {}, "bil", False),
-            (SIZES, {}, "bsq", False), (MANY, {}, "bsq", True), (MANY, {"previous": 12}, "bsq", True), (MANY, {"previous": 13}, "bsq", False),
+            (SIZES, {}, "bsq", False), (MANY, {}, "bsq", True), (MANY, {"previous": 5}, "bsq", True), (MANY, {"previous": 6}, "bsq", False),
         ):
             self.assertEqual(goes_by_rows(ccsds123.Params(**sizes, **options), interleave), wanted)
 
