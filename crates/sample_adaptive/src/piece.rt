@@ -11,7 +11,7 @@ ghost use Rattle.sample_adaptive.specs.Taken.{CoderState, HasSettings, Reaches, 
 use crate::alike_run::take_alike;
 use crate::code_settings::CodeSettings;
 use crate::code_word::take_from;
-use crate::short_run::{take_few, take_few_rarely, words_at};
+use crate::short_run::{take_few, take_few_on_copies, words_at};
 use crate::short_word::ShortWords;
 use crate::statistics::{Statistics, counted};
 use header_bits::bit_reader::BitReader;
@@ -46,41 +46,22 @@ pub(crate) fn take_piece(
     let together = words.together;
     let mut taken = 0;
     while taken + together <= whole {
+        let at = i + taken;
+        let s = *statistics;
         let kept = take_together(
-            settings,
-            thresholds,
-            together,
-            *statistics,
-            *words,
-            reader,
-            i + taken,
-            residuals,
+            settings, thresholds, together, s, *words, reader, at, residuals,
         );
         if let Some(accumulator) = kept {
             *statistics = Statistics {
-                counter: statistics.counter + together as u32,
+                counter: s.counter + together as u32,
                 accumulator,
             };
             taken += together;
             continue;
         }
-        // Copies are passed on, so that all others stay in registers.
-        let mut rest_statistics = *statistics;
-        let mut rest_words = *words;
-        let mut rest = reader.fork();
-        let some = take_few_rarely(
-            settings,
-            thresholds,
-            together,
-            &mut rest_statistics,
-            &mut rest_words,
-            &mut rest,
-            i + taken,
-            residuals,
+        let some = take_few_on_copies(
+            settings, thresholds, together, statistics, words, reader, at, residuals,
         );
-        *statistics = rest_statistics;
-        *words = rest_words;
-        *reader = rest;
         taken += some;
         if some < together {
             *statistics = piece_ended(settings, *statistics);
@@ -91,15 +72,10 @@ pub(crate) fn take_piece(
         *statistics = piece_ended(settings, *statistics);
         return taken;
     }
+    let at = i + taken;
+    let few = whole - taken;
     let rest = take_few(
-        settings,
-        thresholds,
-        whole - taken,
-        statistics,
-        words,
-        reader,
-        i + taken,
-        residuals,
+        settings, thresholds, few, statistics, words, reader, at, residuals,
     );
     *statistics = piece_ended(settings, *statistics);
     taken + rest

@@ -1,15 +1,20 @@
 //! Runs of one band's code words, read back.
 
 ghost use Rattle.std.specs.Prelude.{◌≡◌, ◌+◌, ◌^◌, ◌<◌, ◌≤◌, length, ℕ};
+ghost use Rattle.header_bits.specs.Bits.{Unread};
 ghost use Rattle.sample_adaptive.specs.Taken.{CoderState, HasSettings, GetsEach, GetsRun, Reaches, of_band, with_band};
 ghost use Rattle.sample_adaptive.specs.BandStates.{IsBandState};
+ghost use Rattle.sample_adaptive.specs.Pieces.{AreWordsOf};
+ghost use Rattle.sample_adaptive.specs.Statistics.{AreStatistics};
 ghost use Rattle.sample_adaptive.specs.Thresholds.{AreThresholds};
 
 use crate::band_state::BandState;
 use crate::code_settings::CodeSettings;
 use crate::code_word::{Code, take_word};
 use crate::piece::{take_piece, take_some};
+use crate::short_run::words_of;
 use crate::short_word::ShortWords;
+use crate::statistics::Statistics;
 use cube_core::fault::Fault;
 use header_bits::bit_reader::BitReader;
 
@@ -111,11 +116,7 @@ fn take_ready(
     ensures long { length residuals.new ≡ length residuals.old }
 {
     let mut statistics = state.statistics;
-    let mut words = ShortWords::of(Code {
-        limit: settings.limit,
-        k: state.k,
-        bits: settings.bits,
-    });
+    let mut words = words_of(settings, state.k);
     let mut ahead = reader.fork();
     let mut i = 0;
     while i < residuals.len() {
@@ -132,23 +133,16 @@ fn take_ready(
         if taken > 0 {
             continue;
         }
-        // Copies are passed on, so that all others stay in registers.
-        let mut rest_statistics = statistics;
-        let mut rest_words = words;
-        let mut rest = ahead.fork();
-        let taken = take_some(
+        let taken = take_some_on_copies(
             settings,
             thresholds,
             index + i as u64,
-            &mut rest_statistics,
-            &mut rest_words,
-            &mut rest,
+            &mut statistics,
+            &mut words,
+            &mut ahead,
             i,
             residuals,
         );
-        statistics = rest_statistics;
-        words = rest_words;
-        ahead = rest;
         i += taken;
         if taken == 0 {
             break;
@@ -157,6 +151,51 @@ fn take_ready(
     *reader = ahead;
     *state = BandState::with_parameter(statistics, words.code.k);
     i
+}
+
+/// `take_some`, with copies in place of what it changes: so the caller keeps all that in registers, and pays for copies only here.
+#[inline(always)]
+fn take_some_on_copies(
+    settings: CodeSettings,
+    thresholds: &[u32],
+    index: u64,
+    statistics: &mut Statistics,
+    words: &mut ShortWords,
+    reader: &mut BitReader,
+    i: usize,
+    residuals: &mut [u16],
+) -> usize
+    requires thresholds { AreThresholds settings.bits settings.rescaling.size thresholds.now }
+    requires statistics { AreStatistics settings.rescaling.size statistics.old }
+    requires words { AreWordsOf settings words.old.code }
+    requires inside { i < length residuals.old }
+    requires long { length residuals.old ≤ 2 ^ 16 }
+    ensures taken { (v : CoderState) (z t k begun : ℕ) (first : Unread) → z < length v.bands → HasSettings v settings.bits settings.limit settings.rescaling.size
+        → 0 < t + k → index ≡ begun + i → Reaches (λ i. z) (λ i. t + i) k begun i v (with_band v z statistics.old) first reader.old residuals.old
+        → Reaches (λ i. z) (λ i. t + i) k begun (i + result) v (with_band v z statistics.new) first reader.new residuals.new }
+    ensures within { i + result ≤ length residuals.new }
+    ensures statistics { AreStatistics settings.rescaling.size statistics.new }
+    ensures words { AreWordsOf settings words.new.code }
+    ensures count { reader.new.count ≡ reader.old.count }
+    ensures long { length residuals.new ≡ length residuals.old }
+{
+    let mut rest_statistics = *statistics;
+    let mut rest_words = *words;
+    let mut rest = reader.fork();
+    let taken = take_some(
+        settings,
+        thresholds,
+        index,
+        &mut rest_statistics,
+        &mut rest_words,
+        &mut rest,
+        i,
+        residuals,
+    );
+    *statistics = rest_statistics;
+    *words = rest_words;
+    *reader = rest;
+    taken
 }
 
 /// `take_later`, word by word and with fewer than 57 bits left, too; it names the fault of a refused residual.

@@ -78,10 +78,59 @@ pub(crate) fn take_few(
     taken
 }
 
+/// `take_few_rarely`, with copies in place of what it changes: so the caller keeps all that in registers, and pays for copies only here.
+#[inline(always)]
+pub(crate) fn take_few_on_copies(
+    settings: CodeSettings,
+    thresholds: &[u32],
+    few: usize,
+    statistics: &mut Statistics,
+    words: &mut ShortWords,
+    reader: &mut BitReader,
+    i: usize,
+    residuals: &mut [u16],
+) -> usize
+    requires thresholds { AreThresholds settings.bits settings.rescaling.size thresholds.now }
+    requires statistics { AreStatistics settings.rescaling.size statistics.old }
+    requires words { AreWordsOf settings words.old.code }
+    requires ahead { few * words.old.most ≤ 57 }
+    requires before { statistics.old.counter + few ≤ 2 ^ settings.rescaling.size }
+    requires inside { i + few ≤ length residuals.old }
+    requires long { length residuals.old ≤ 2 ^ 16 }
+    ensures taken { (v : CoderState) (z t k index : ℕ) (first : Unread) → z < length v.bands → HasSettings v settings.bits settings.limit settings.rescaling.size
+        → 0 < t + k → Reaches (λ i. z) (λ i. t + i) k index i v (with_band v z statistics.old) first reader.old residuals.old
+        → Reaches (λ i. z) (λ i. t + i) k index (i + result) v (with_band v z (at_piece_end settings.rescaling.size statistics.new)) first reader.new residuals.new }
+    ensures few { result ≤ few }
+    ensures counter { statistics.new.counter ≡ statistics.old.counter + result }
+    ensures most { result ≡ few → words.new.most ≡ words.old.most }
+    ensures statistics { AreCounted settings.rescaling.size statistics.new }
+    ensures words { AreWordsOf settings words.new.code }
+    ensures count { reader.new.count ≡ reader.old.count }
+    ensures long { length residuals.new ≡ length residuals.old }
+{
+    let mut rest_statistics = *statistics;
+    let mut rest_words = *words;
+    let mut rest = reader.fork();
+    let taken = take_few_rarely(
+        settings,
+        thresholds,
+        few,
+        &mut rest_statistics,
+        &mut rest_words,
+        &mut rest,
+        i,
+        residuals,
+    );
+    *statistics = rest_statistics;
+    *words = rest_words;
+    *reader = rest;
+    taken
+}
+
 /// `take_few`, apart from the loop over words that share a code parameter, which is shorter so.
 #[cold]
 #[inline(never)]
-pub(crate) fn take_few_rarely(
+fn take_few_rarely(
     settings: CodeSettings,
     thresholds: &[u32],
     few: usize,
@@ -168,9 +217,19 @@ pub(crate) fn words_at(settings: CodeSettings, statistics: Statistics) -> ShortW
     ensures code { result.code ≡ record { limit = settings.limit; k = code_parameter settings.bits statistics; bits = settings.bits } }
     ensures words { AreWordsOf settings result.code }
 {
+    words_of(settings, parameter(settings.bits, statistics))
+}
+
+/// Returns the short code words of a code parameter.
+#[inline(always)]
+pub(crate) fn words_of(settings: CodeSettings, k: u32) -> ShortWords
+    requires { k + 2 ≤ settings.bits }
+    ensures code { result.code ≡ record { limit = settings.limit; k = k; bits = settings.bits } }
+    ensures words { AreWordsOf settings result.code }
+{
     ShortWords::of(Code {
         limit: settings.limit,
-        k: parameter(settings.bits, statistics),
+        k,
         bits: settings.bits,
     })
 }

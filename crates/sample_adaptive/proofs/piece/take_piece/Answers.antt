@@ -1,5 +1,4 @@
-use Rattle.std.proofs.Common.{◌≡◌, ◌+◌, ◌<◌, ◌^◌, ◌∙◌, ℕ, ap, refl, arith}
-use Rattle.header_bits.specs.Bits.{Unread}
+use Rattle.std.proofs.Common.{◌≡◌, ◌+◌, ◌<◌, ◌^◌, ◌∙◌, ℕ, refl, arith}
 use Rattle.sample_adaptive.specs.declared.statistics.Statistics.{Statistics}
 use Rattle.sample_adaptive.specs.Taken.{with_band}
 use Rattle.sample_adaptive.proofs.Alike.{same_front}
@@ -30,21 +29,20 @@ loop-taken-preserved c =
     let i : ℕ = c.args.i + c.loop-taken.taken in
     let inside : s.counter < 2 ^ size =
     omega (arith, c.loop-taken-test.true, inv.counter, c.words_left-whole.ensures.before, c.args.words.now.together_in) in
-    let stands : c.fork-rest.result ≡ c.loop-taken.reader = c.fork-rest.ensures ∙ c.in_default.ensures.same in
-    let next : c.args.i + (c.loop-taken.taken + c.take_few_rarely-some.result) ≡ i + c.take_few_rarely-some.result = omega arith in
-    let e = c.take_few_rarely-some.ensures in
-    let all : c.take_few_rarely-some.result ≡ c.args.words.now.together = omega (arith, c.if-some-together.false, e.few) in
+    let e = c.take_few_on_copies-some.ensures in
+    let next : c.args.i + (c.loop-taken.taken + c.take_few_on_copies-some.result) ≡ i + c.take_few_on_copies-some.result = omega arith in
+    let all : c.take_few_on_copies-some.result ≡ c.args.words.now.together = omega (arith, c.if-some-together.false, e.few) in
     record {
       taken = λ v z t k index first within settings some was.
-          let there = same_front (λ i. z) (λ i. t + i) k index i v (with_band v z s) first c.fork-rest.result c.loop-taken.residuals c.take_together-kept.new.residuals
-          c.take_together-kept.ensures.before (rw stands (rw (within_piece size s inside) at (inv.taken v z t k index first within settings some was))) in
+          let there = same_front (λ i. z) (λ i. t + i) k index i v (with_band v z s) first c.take_together-kept.new.reader c.loop-taken.residuals c.take_together-kept.new.residuals
+          c.take_together-kept.ensures.before (rw c.in_default.ensures.same (rw (within_piece size s inside) at (inv.taken v z t k index first within settings some was))) in
           rw next (e.taken v z t k index first within settings some there);
       few = omega (arith, c.loop-taken-test.true, e.few);
       counter = omega (arith, e.counter, inv.counter);
       statistics = e.statistics;
       words = e.words;
       most = e.most all ∙ inv.most;
-      count = e.count ∙ ap (λ (r : Unread). r.count) stands ∙ inv.count;
+      count = e.count ∙ c.take_together-kept.ensures.count ∙ inv.count;
       long = e.long ∙ c.take_together-kept.ensures.long ∙ inv.long;
     }
 
@@ -57,12 +55,11 @@ returns-then-some-together-clause-taken c =
     let i : ℕ = c.args.i + c.loop-taken.taken in
     let inside : s.counter < 2 ^ size =
     omega (arith, c.loop-taken-test.true, inv.counter, c.words_left-whole.ensures.before, c.args.words.now.together_in) in
-    let stands : c.fork-rest.result ≡ c.loop-taken.reader = c.fork-rest.ensures ∙ c.in_default.ensures.same in
-    let next : c.args.i + (c.loop-taken.taken + c.take_few_rarely-some.result) ≡ i + c.take_few_rarely-some.result = omega arith in
+    let next : c.args.i + (c.loop-taken.taken + c.take_few_on_copies-some.result) ≡ i + c.take_few_on_copies-some.result = omega arith in
     λ v z t k index first within settings some was.
-    let there = same_front (λ i. z) (λ i. t + i) k index i v (with_band v z s) first c.fork-rest.result c.loop-taken.residuals c.take_together-kept.new.residuals
-    c.take_together-kept.ensures.before (rw stands (rw (within_piece size s inside) at (inv.taken v z t k index first within settings some was))) in
-    rw (c.piece_ended.ensures.value, next) (c.take_few_rarely-some.ensures.taken v z t k index first within settings some there)
+    let there = same_front (λ i. z) (λ i. t + i) k index i v (with_band v z s) first c.take_together-kept.new.reader c.loop-taken.residuals c.take_together-kept.new.residuals
+    c.take_together-kept.ensures.before (rw c.in_default.ensures.same (rw (within_piece size s inside) at (inv.taken v z t k index first within settings some was))) in
+    rw (c.piece_ended.ensures.value, next) (c.take_few_on_copies-some.ensures.taken v z t k index first within settings some there)
 
 pub returns-then-taken-whole-clause-taken : goal.returns-then-taken-whole-clause-taken
 returns-then-taken-whole-clause-taken c = λ v z t k index first within settings some was.

@@ -9,7 +9,7 @@ use Rattle.sample_adaptive.proofs.read_run.take_ready.Goals.{Left-loop-i, else-l
 
 pub loop-i-init : goal.loop-i-init
 loop-i-init c =
-    rw (c.fork-ahead.ensures, c.of-words.ensures) (record {
+    rw (c.fork-ahead.ensures, c.words_of-words.ensures.code) (record {
       taken = λ v z t k within settings own some. starts (same_band v z _ (sym own));
       statistics = c.requires.state.statistics;
       words = record { limit = refl; bits = refl; k = c.requires.state.k };
@@ -25,7 +25,7 @@ returns-clause-taken c = λ v z t k within settings own some.
       | else-loop-i-test w ↦ rw (c.with_parameter.ensures.statistics, w.residuals-is, w.statistics-is, w.ahead-is, w.i-is) was
       | then-loop-i-test+else-taken-gt0+then-taken-eq0 w ↦
           (let before = w.take_piece-taken.ensures.taken v z t k c.args.index c.args.reader.now within settings some was in
-          let after = rw w.fork-rest.ensures at (w.take_some-taken.ensures.taken v z t k c.args.index c.args.reader.now within settings some refl) in
+          let after = w.take_some_on_copies-taken.ensures.taken v z t k c.args.index c.args.reader.now within settings some refl in
           rw (c.with_parameter.ensures.statistics, w.residuals-is, w.statistics-is, w.ahead-is, w.i-is) (after before))
     ]
 
@@ -39,5 +39,5 @@ pub with_parameter-requires : goal.with_parameter-requires
 with_parameter-requires c = elim c.loop-i-test.branch [
   | else-loop-i-test w ↦ within c (rw w.statistics-is c.loop-i.invariant.statistics) (rw w.words-is c.loop-i.invariant.words)
   | then-loop-i-test+else-taken-gt0+then-taken-eq0 w ↦
-      within c (rw w.statistics-is w.take_some-taken.ensures.statistics) (rw w.words-is w.take_some-taken.ensures.words)
+      within c (rw w.statistics-is w.take_some_on_copies-taken.ensures.statistics) (rw w.words-is w.take_some_on_copies-taken.ensures.words)
 ]
