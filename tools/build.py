@@ -29,6 +29,8 @@ SILENCE = 100
 QUICK = 0.1
 # The share of the longest chain from which on a chain counts as long.
 MUCH = 0.6
+# The memory that one more job of a proof may take, in kilobytes.
+JOB = 1_500_000
 
 
 def rows_of_crates():
@@ -69,6 +71,13 @@ def weight_of(crate):
                 with open(os.path.join(folder, name), "rb") as file:
                     total += sum(1 for _ in file)
     return total
+
+
+def jobs_of_a_proof():
+    """Returns how many jobs a proof may have: one a processor, as far as free memory goes."""
+    with open("/proc/meminfo", encoding="utf-8") as file:
+        free = next((int(line.split()[1]) for line in file if line.startswith("MemAvailable:")), 0)
+    return max(1, min(len(os.sched_getaffinity(0)), free // JOB - 1))
 
 
 def link_or_copy(source, target):
@@ -112,9 +121,10 @@ class Build:
                 most = max((self.after[it] for it in [*ready, *running.values()]), default=0)
                 long = [it for it in [*ready, *running.values()] if self.after[it] >= MUCH * most]
                 for it in ready[: 0 if self.failed else processors - len(running)]:
-                    # Crates on a long chain share the processors; each other one gets a single job and a lower priority.
+                    # A proof has stretches that one processor does alone. So each crate on a long chain gets as many jobs as there are
+                    # processors, and the others, of a single job each and a lower priority, take what they leave.
                     is_long = it in long
-                    running[pool.submit(self.build, it, processors // len(long) if is_long else 1, is_long)] = it
+                    running[pool.submit(self.build, it, jobs_of_a_proof() if is_long else 1, is_long)] = it
                     left.remove(it)
                 done, _ = wait(running, timeout=5, return_when=FIRST_COMPLETED)
                 for it in done:
@@ -128,7 +138,7 @@ class Build:
         self.say(f"        {crate} begins")
         folder = folder_of(crate)
         words, given = ["rt", "lib" if is_static_library(crate) else "run"], os.path.join(folder, "stdin")
-        words += [*(["--target", target] if target else []), *(["--cpu", cpu] if cpu else [])]
+        words += ["--jobs", str(jobs_of_a_proof()), *(["--target", target] if target else []), *(["--cpu", cpu] if cpu else [])]
         if os.path.isfile(os.path.join(folder, "args")):
             with open(os.path.join(folder, "args"), encoding="utf-8") as file:
                 words += ["--", *file.read().splitlines()]
@@ -165,7 +175,7 @@ class Build:
         top = os.path.join(self.room, crate)
         self.furnish(top, crate)
         made, kept = os.path.join(folder_of(crate, top), "out"), os.path.join(folder_of(crate), "out")
-        words = ([] if is_long else ["nice"]) + ["rt", "lib", "--jobs", str(max(1, jobs))]
+        words = ([] if is_long else ["nice", "-n", "3"]) + ["rt", "lib", "--jobs", str(jobs)]
         how = {"stdin": subprocess.DEVNULL, "stdout": subprocess.PIPE, "stderr": subprocess.STDOUT, "text": True}
         try:
             ran = subprocess.run(words, cwd=folder_of(crate, top), check=False, **how)
