@@ -117,6 +117,16 @@ pub bands_of_column : (s : Sizes) (o : Order) (p : Spot) (n : ℕ) → IsOrder s
 bands_of_column s Bsq p n lawful along spot more = elim (true≢false along) [ ]
 bands_of_column s (Bi depth) p n lawful along spot more = bands_of_group s depth p n lawful.0 spot more
 
+-- so many columns of the group's bands on
+pub columns_of_group : (s : Sizes) (o : Order) (p : Spot) (n : ℕ) → IsOrder s o → goes_along_rows o ≡ false → IsSpot s o p → p.place.x + n < s.columns
+    → StepsOn s o (n * (p.end - p.first)) p (places_on p n)
+columns_of_group s Bsq p n lawful along spot more = elim (true≢false along) [ ]
+columns_of_group s (Bi depth) p n lawful along spot more =
+    let size : p.end - p.first ≡ min depth (s.bands - p.first) = omega (arith, spot.2) in (
+      spot_along s (Bi depth) p n spot more,
+      rw (index_in_group s depth p.first (places_on p n).place spot.1, index_in_group s depth p.first p.place spot.1, size) (omega arith),
+    )
+
 -- the group's first band, a column on
 pub next_in_row : (s : Sizes) (depth : ℕ) (p : Spot) → 1 ≤ depth → IsSpot s (Bi depth) p → p.end ≤ p.place.z + 1 → p.place.x + 1 < s.columns
     → StepsTo s depth p (record { place = record { z = p.first; y = p.place.y; x = p.place.x + 1 }; first = p.first; end = p.end })

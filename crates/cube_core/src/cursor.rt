@@ -1,10 +1,10 @@
 //! A walk over the places of a cube in encoding order, which steps from place to place without a division.
 
-ghost use Rattle.std.specs.Prelude.{◌≡◌, ◌+◌, ◌<◌, ◌≤◌, ℕ, Some, length, drop, slice_get};
+ghost use Rattle.std.specs.Prelude.{◌≡◌, ◌+◌, ◌<◌, ◌≤◌, ℕ, false, Some, length, drop, slice_get};
 ghost use Rattle.std.specs.Iterator.{YieldsFirst, item_count};
 ghost use Rattle.cube_core.specs.declared.order.Place.{Place as APlace};
 ghost use Rattle.cube_core.specs.Shape.{InRange, sample_count};
-ghost use Rattle.cube_core.specs.Order.{IsOrder, IsPlaceOf, place_index, places};
+ghost use Rattle.cube_core.specs.Order.{IsOrder, IsPlaceOf, goes_along_rows, place_index, places};
 ghost use Rattle.cube_core.specs.Cursor.{IsSpot};
 
 use crate::order::{Order, Place};
@@ -146,8 +146,8 @@ fn first_spot(shape: Shape, order: Order) -> Spot
     }
 }
 
-/// Returns the spot at most `most` places further on, and how many places away it is: in the same row where
-/// places go along rows, otherwise in the same column of bands.
+/// Returns the spot at most `most` places further on, and how many places away it is: in the same row where places go along rows;
+/// otherwise whole columns of bands away, or in the same column.
 fn spot_ahead(shape: Shape, order: Order, spot: Spot, most: u64) -> (Spot, u64)
     requires order { IsOrder shape order }
     requires spot { IsSpot shape order spot }
@@ -163,6 +163,8 @@ fn spot_ahead(shape: Shape, order: Order, spot: Spot, most: u64) -> (Spot, u64)
             ..place
         };
         (Spot { place, ..spot }, on)
+    } else if most >= u64::from(spot.end - spot.first) && place.x + 1 < shape.columns() {
+        columns_ahead(shape, order, spot, most)
     } else {
         let on = most.min(u64::from(spot.end - 1 - place.z));
         let place = Place {
@@ -171,6 +173,25 @@ fn spot_ahead(shape: Shape, order: Order, spot: Spot, most: u64) -> (Spot, u64)
         };
         (Spot { place, ..spot }, on)
     }
+}
+
+/// Returns the spot of the same band and row, as many columns of the group's bands further on as `most` places and the row have, and how
+/// many places away it is.
+fn columns_ahead(shape: Shape, order: Order, spot: Spot, most: u64) -> (Spot, u64)
+    requires order { IsOrder shape order }
+    requires by_columns { goes_along_rows order ≡ false }
+    requires spot { IsSpot shape order spot }
+    ensures spot { IsSpot shape order result.0 }
+    ensures index { place_index shape order result.0.place ≡ place_index shape order spot.place + result.1 }
+    ensures most { result.1 ≤ most }
+{
+    let size = u64::from(spot.end - spot.first);
+    let columns = (most / size).min(u64::from(shape.columns() - 1 - spot.place.x));
+    let place = Place {
+        x: spot.place.x + columns as u32,
+        ..spot.place
+    };
+    (Spot { place, ..spot }, columns * size)
 }
 
 /// Returns the spot after one that isn't the last.
