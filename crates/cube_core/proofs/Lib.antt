@@ -10,6 +10,7 @@ pub mod Orders
 pub mod RawBytes
 pub mod PartBytes
 pub mod Parts
+pub mod PartPieces
 pub mod WrittenParts
 pub mod Pieces
 pub mod Written

@@ -1,5 +1,6 @@
 use Rattle.std.proofs.Common.{◌≡◌, ◌+◌, ◌*◌, arith}
 use Rattle.cube_core.proofs.Parts.{read_on, read_none, offsets_on}
+use Rattle.cube_core.proofs.PartPieces.{few_bytes, scaled_good}
 use Rattle.cube_core.proofs.raw_read.read_sequence.Goals as goal
 
 pub returns-clause-filled : goal.returns-clause-filled
@@ -19,3 +20,15 @@ returns-clause-offsets c = λ t.
     let p = c.sequential-piece.result in
     offsets_on c.args.shape c.args.kind _ c.args.offsets.now c.read_piece.new.offsets p.at p.count c.new.ensures.0 c.requires.offsets
     c.read_piece.auto.offsets (c.read_piece.ensures.good.0 t) c.read_piece.ensures.others
+
+pub read_piece-requires-clause-small : goal.read_piece-requires-clause-small
+read_piece-requires-clause-small c =
+    few_bytes c.args.shape c.args.layout c.args.part _ c.requires.layout c.requires.part (omega (arith, c.sample_count-count.ensures.value, c.sample_count-count.ensures.range))
+    c.requires.whole
+
+pub returns-clause-good : goal.returns-clause-good
+returns-clause-good c = λ all.
+    let p = c.sequential-piece.result in
+    let one : c.args.part.count * 1 ≡ c.args.part.count = omega arith in
+    c.read_piece.ensures.good.1 (scaled_good c.args.shape _ c.args.kind _ c.args.layout c.args.bytes.now c.read_piece.new.offsets _ _ p.at p.count p.first p.step
+    c.new.ensures.0 c.sequential-piece.ensures.piece c.read_piece.ensures.taken (rw (c.requires.order, one) at all))

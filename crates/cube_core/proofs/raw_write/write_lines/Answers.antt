@@ -1,4 +1,6 @@
-use Rattle.std.proofs.Common.{◌≡◌, ◌+◌, ◌*◌, arith, refl}
+use Rattle.std.proofs.Common.{◌≡◌, ◌+◌, ◌*◌, ◌∙◌, arith, refl}
+use Rattle.cube_core.proofs.Parts.{piece_there}
+use Rattle.cube_core.proofs.PartPieces.{few_bytes, next_row_fits, scaled_range}
 use Rattle.cube_core.proofs.WrittenParts.{write_on, piece_fits}
 use Rattle.cube_core.proofs.raw_write.write_lines.Goals as goal
 use Rattle.cube_core.proofs.raw_write.write_lines.Goals.{then-z-bands, else-z-bands}
@@ -35,3 +37,23 @@ returns-then-not-write_piece-clause-good c = λ all.
     let p = c.line-piece.result in
     c.if-not-write_piece.ensures.good.1 (rw c.new-scale.ensures.0 (piece_fits c.args.shape c.args.kind c.args.layout c.args.offsets.now p.at p.count
     c.line-piece.ensures.piece.room all))
+
+pub write_piece-requires-clause-small : goal.write_piece-requires-clause-small
+write_piece-requires-clause-small c =
+    few_bytes c.args.shape c.args.layout c.args.part _ c.requires.layout c.requires.part (omega (arith, c.sample_count-count.ensures.value, c.sample_count-count.ensures.range))
+    (c.loop-line.auto.bytes ∙ c.requires.whole)
+
+pub write_piece-requires-clause-there : goal.write_piece-requires-clause-there
+write_piece-requires-clause-there c =
+    let p = c.line-piece.result in
+    piece_there c.args.shape _ c.args.layout _ _ p.at p.count p.first p.step _ c.line-piece.ensures.piece (c.loop-line.auto.bytes ∙ (rw c.requires.order at c.requires.whole))
+
+pub overflow_add-y : goal.overflow_add-y
+overflow_add-y c =
+    next_row_fits c.args.shape c.args.part.first c.args.part.count c.loop-line.line c.loop-line.z c.loop-line.y c.sample_count-count.ensures.sizes.rows.1
+    (rw c.requires.order at c.requires.part) c.loop-line-test.true c.loop-line.invariant.spot
+
+pub write_piece-requires-clause-range : goal.write_piece-requires-clause-range
+write_piece-requires-clause-range c =
+    let p = c.line-piece.result in
+    scaled_range c.args.shape c.args.kind _ c.args.offsets.now p.at p.count c.new-scale.ensures.0 c.requires.offsets c.line-piece.ensures.piece.room

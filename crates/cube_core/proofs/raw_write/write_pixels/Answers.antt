@@ -1,6 +1,7 @@
-use Rattle.std.proofs.Common.{◌≡◌, ◌+◌, ◌*◌, arith, refl}
+use Rattle.std.proofs.Common.{◌≡◌, ◌+◌, ◌*◌, ◌∙◌, arith, refl}
 use Rattle.cube_core.proofs.Words.{Place, IsWrittenAt}
-use Rattle.cube_core.proofs.Parts.{band_more, block_ends, block_begins}
+use Rattle.cube_core.proofs.Parts.{band_more, block_ends, block_begins, piece_there}
+use Rattle.cube_core.proofs.PartPieces.{few_bytes, scaled_range}
 use Rattle.cube_core.proofs.WrittenParts.{written_there, piece_fits}
 use Rattle.cube_core.proofs.Raws.{lawful_order}
 use Rattle.cube_core.proofs.raw_write.write_pixels.Goals as goal
@@ -43,3 +44,23 @@ returns-then-not-write_piece-clause-good c = λ all.
     let p = c.pixels-piece.result in
     c.if-not-write_piece.ensures.good.1 (rw c.new-scale.ensures.0 (piece_fits c.args.shape c.args.kind c.args.layout c.args.offsets.now p.at p.count
     c.pixels-piece.ensures.piece.room all))
+
+pub write_piece-requires-clause-small : goal.write_piece-requires-clause-small
+write_piece-requires-clause-small c =
+    few_bytes c.args.shape c.args.layout c.args.part _ c.requires.layout c.requires.part (omega (arith, c.sample_count-count.ensures.value, c.sample_count-count.ensures.range))
+    (c.loop-z.auto.bytes ∙ c.loop-pixel.auto.bytes ∙ c.requires.whole)
+
+pub write_piece-requires-clause-there : goal.write_piece-requires-clause-there
+write_piece-requires-clause-there c =
+    let p = c.pixels-piece.result in
+    piece_there c.args.shape _ c.args.layout _ _ p.at p.count p.first p.step _ c.pixels-piece.ensures.piece (c.loop-z.auto.bytes ∙ c.loop-pixel.auto.bytes ∙ (rw c.requires.order at c.requires.whole))
+
+pub returns-clause-written : goal.returns-clause-written
+returns-clause-written c = λ t.
+    let all : c.loop-pixel.pixel ≡ c.args.part.count = omega (arith, c.loop-pixel.invariant.within, c.loop-pixel-test.false) in
+    rw c.requires.order (rw (all, c.requires.order) at c.loop-pixel.invariant.written)
+
+pub write_piece-requires-clause-range : goal.write_piece-requires-clause-range
+write_piece-requires-clause-range c =
+    let p = c.pixels-piece.result in
+    scaled_range c.args.shape c.args.kind _ c.args.offsets.now p.at p.count c.new-scale.ensures.0 c.requires.offsets c.pixels-piece.ensures.piece.room
