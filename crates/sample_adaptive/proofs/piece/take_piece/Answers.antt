@@ -1,4 +1,5 @@
-use Rattle.std.proofs.Common.{◌≡◌, ◌+◌, ◌<◌, ◌^◌, ◌∙◌, ℕ, refl, arith}
+use Rattle.std.proofs.Common.{◌≡◌, ◌+◌, ◌<◌, ◌^◌, ◌∙◌, ℕ, refl, ap, arith}
+use Rattle.header_bits.specs.Bits.{Unread}
 use Rattle.sample_adaptive.specs.declared.statistics.Statistics.{Statistics}
 use Rattle.sample_adaptive.specs.Taken.{with_band}
 use Rattle.sample_adaptive.proofs.Alike.{same_front}
@@ -75,3 +76,34 @@ returns-clause-taken c = λ v z t k index first within settings some was.
     let next : c.args.i + (c.loop-taken.taken + c.take_few-rest.result) ≡ c.args.i + c.loop-taken.taken + c.take_few-rest.result = omega arith in
     rw (c.piece_ended-2.ensures.value, next)
     (c.take_few-rest.ensures.taken v z t k index first within settings some (rw (within_piece size c.loop-taken.statistics inside) at before))
+
+-- where the next words were read together
+pub loop-taken-preserved-in-Some : goal.loop-taken-preserved-in-Some
+loop-taken-preserved-in-Some c =
+    let inv = c.loop-taken.invariant in
+    let size = c.args.settings.rescaling.size in
+    let inside : c.loop-taken.statistics.counter < 2 ^ size =
+    omega (arith, c.loop-taken-test.true, inv.counter, c.words_left-whole.ensures.before, c.args.words.now.together_in) in
+    let e = c.in-Some.ensures in
+    let next : c.args.i + (c.loop-taken.taken + c.args.words.now.together) ≡ c.args.i + c.loop-taken.taken + c.args.words.now.together = omega arith in
+    record {
+      taken = λ v z t k index first within settings some was. rw next (e.taken v z t k index first within settings some
+          (rw (within_piece size c.loop-taken.statistics inside) at (inv.taken v z t k index first within settings some was)));
+      few = c.loop-taken-test.true;
+      counter = omega (arith, inv.counter);
+      statistics = e.statistics;
+      words = inv.words;
+      most = inv.most;
+      count = e.count ∙ inv.count;
+      long = e.long ∙ inv.long;
+    }
+
+pub returns-then-some-together-clause-count : goal.returns-then-some-together-clause-count
+returns-then-some-together-clause-count c =
+    c.take_few_on_copies-some.ensures.count ∙ ap (λ (r : Unread). r.count) c.in_default.ensures.same ∙ c.loop-taken.invariant.count
+
+pub returns-then-some-together-clause-long : goal.returns-then-some-together-clause-long
+returns-then-some-together-clause-long c = c.take_few_on_copies-some.ensures.long ∙ c.take_together-kept.ensures.long ∙ c.loop-taken.invariant.long
+
+pub returns-then-taken-whole-clause-long : goal.returns-then-taken-whole-clause-long
+returns-then-taken-whole-clause-long c = c.loop-taken.invariant.long
