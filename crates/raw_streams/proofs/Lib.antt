@@ -1,2 +1,3 @@
 pub mod RowStreams
 pub mod Streams
+pub mod Told

@@ -1,4 +1,4 @@
-use Rattle.std.proofs.Common.{◌≡◌, ◌+◌, ◌*◌, ◌<◌, ◌≤◌, ◌∙◌, ℕ, List, [], ◌++◌, length, arith, ap, sym, refl}
+use Rattle.std.proofs.Common.{◌≡◌, ◌+◌, ◌*◌, ◌∙◌, [], ◌++◌, length, arith, ap, refl, inl, inr}
 use Rattle.std.proofs.lemmas.Result.{err_from_is_err_and}
 use Rattle.cube_core.specs.Image.{Image}
 use Rattle.cube_core.specs.Parts.{first_sample, part_samples, unit_of}
@@ -6,6 +6,7 @@ use Rattle.cube_core.specs.Raw.{IsFound}
 use Rattle.cube_core.specs.Shape.{sample_count}
 use Rattle.command_devices.proofs.Devices.{gave_more}
 use Rattle.raw_streams.proofs.Streams.{part_inside, part_refused, end_refused, within_more, gave_within, gave_none, all_came, found_cube, found_bad, found_none}
+use Rattle.raw_streams.proofs.Told.{part_told, end_told, from_start, ok_anyway, err_anyway}
 use Rattle.raw_streams.proofs.read.read_pieces.Goals as goal
 
 pub returns-in_err-read_bytes-clause-refused : goal.returns-in_err-read_bytes-clause-refused
@@ -103,3 +104,42 @@ returns-clause-bounded g c =
     let samples : c.loop-done.done * unit_of c.args.layout.order c.args.shape ≡ sample_count c.args.shape = rw all c.units-units.ensures.samples in
     let long : length come.0 ≡ sample_count c.args.shape * c.args.layout.bytes = rw (← samples) come.2.long in
     gave_within _ _ come.0 _ (all_came _ _ _ come.0 come.1 c.in_ok-read_end.ensures.given) (omega (arith, long))
+
+pub returns-in_err-read_bytes-clause-told : goal.returns-in_err-read_bytes-clause-told
+returns-in_err-read_bytes-clause-told g c =
+    let p = err_from_is_err_and c.from_residual.result c.from_residual.ensures.1 in
+    rw (p.1, p.2) (part_told c.args.shape c.args.layout c.next_part-first.result _ _ _ _ _ _ refl c.in_err-read_bytes.ensures.refused)
+
+pub returns-in_err-read_bytes-clause-bounded : goal.returns-in_err-read_bytes-clause-bounded
+returns-in_err-read_bytes-clause-bounded g c =
+    from_start c.args.layout c.args.shape c.next_part-first.result _ _ c.next_part-first.ensures.part c.in_err-read_bytes.ensures.bounded
+
+pub returns-in_err-read_bytes-2-clause-told : goal.returns-in_err-read_bytes-2-clause-told
+returns-in_err-read_bytes-2-clause-told g c =
+    let p = err_from_is_err_and c.from_residual-in_err-read_bytes-2.result c.from_residual-in_err-read_bytes-2.ensures.1 in
+    rw (p.1, p.2) (part_told c.args.shape c.args.layout c.next_part-part.result _ _ _ _ _ _ c.loop-done.invariant.worked c.in_err-read_bytes-2.ensures.refused)
+
+pub returns-in_err-read_end-clause-told : goal.returns-in_err-read_end-clause-told
+returns-in_err-read_end-clause-told g c =
+    let p = err_from_is_err_and c.from_residual-in_err-read_end.result c.from_residual-in_err-read_end.ensures.1 in
+    rw (p.1, p.2) (end_told c.args.shape c.args.layout _ _ _ _ _ _ c.loop-done.invariant.worked c.in_err-read_end.ensures.refused)
+
+pub returns-clause-worked : goal.returns-clause-worked
+returns-clause-worked g c = ok_anyway c.loop-done.found (c.in_ok-read_end.ensures.worked ∙ c.loop-done.invariant.worked)
+
+pub returns-clause-told : goal.returns-clause-told
+returns-clause-told g c = err_anyway c.loop-done.found (c.in_ok-read_end.ensures.worked ∙ c.loop-done.invariant.worked)
+
+pub returns-in_err-cube-clause-refused : goal.returns-in_err-cube-clause-refused
+returns-in_err-cube-clause-refused g c =
+    let p = err_from_is_err_and c.from_residual-in_err-cube.result c.from_residual-in_err-cube.ensures.1 in
+    rw (p.1, p.2) (inr (inl c.in_err-cube.ensures.memory))
+
+pub returns-in_err-cube-clause-told : goal.returns-in_err-cube-clause-told
+returns-in_err-cube-clause-told g c =
+    let p = err_from_is_err_and c.from_residual-in_err-cube.result c.from_residual-in_err-cube.ensures.1 in
+    rw p.1 (inr c.in_ok-read_bytes.ensures.worked)
+
+pub returns-in_err-cube-clause-bounded : goal.returns-in_err-cube-clause-bounded
+returns-in_err-cube-clause-bounded g c =
+    from_start c.args.layout c.args.shape c.next_part-first.result _ _ c.next_part-first.ensures.part c.in_ok-read_bytes.ensures.bounded
