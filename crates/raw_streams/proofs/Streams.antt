@@ -1,5 +1,5 @@
 -- Parts of raw bytes that came, and that went out.
-use Rattle.std.proofs.Common.{◌≡◌, ◌≢◌, ◌⊎◌, ◌+◌, ◌*◌, ◌-◌, ◌<◌, ◌≤◌, ◌^◌, ℕ, List, [], ◌++◌, length, take, drop, Option, Some, Result, Ok, Err, IfOk, IfErr}
+use Rattle.std.proofs.Common.{◌≡◌, ◌+◌, ◌*◌, ◌<◌, ◌≤◌, ◌^◌, ℕ, List, [], ◌++◌, length, take, drop, Option, Some, Result, Ok, IfOk, IfErr}
 use Rattle.std.proofs.Common.{refl, sym, ap, ◌∙◌, arith, inl, inr, length-append, length-take, length-drop, append-nil, take-add, take-take}
 use Rattle.std.proofs.lemmas.List.{take_all, take_at}
 use Rattle.std.proofs.lemmas.Nat.{mul-le}
@@ -17,7 +17,7 @@ use Rattle.cube_core.specs.Shape.{Sizes, sample_count}
 use Rattle.cube_core.proofs.PartBytes.{part_within}
 use Rattle.cube_core.proofs.RawBytes.{length-raw_bytes}
 use Rattle.cube_core.proofs.Raws.{product_small}
-use Rattle.command_devices.specs.Devices.{Gave, GaveWithin, IsAll, IsEnd, IsFront, Rose, Took}
+use Rattle.command_devices.specs.Devices.{Gave, GaveWithin, IsAll, IsEnd, IsFront, Took}
 use Rattle.command_devices.specs.Writing.{IsCutAfter, IsCutShort}
 use Rattle.command_devices.proofs.Devices.{gave_more, took_more}
 use Rattle.raw_streams.specs.Streams.{HasRawCube, IsRawRefusal, IsPartRefusal, IsEndRefusal, length_in, most_read}

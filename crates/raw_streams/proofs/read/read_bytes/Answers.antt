@@ -1,5 +1,4 @@
-use Rattle.std.proofs.Common.{◌≡◌, ◌+◌, ◌*◌, ◌<◌, ◌≤◌, ℕ, List, length, take, length-take, arith, inl, inr, refl}
-use Rattle.cube_core.specs.Shape.{sample_count}
+use Rattle.std.proofs.Common.{◌≡◌, length, take, length-take, arith, inl, inr, refl}
 use Rattle.raw_streams.proofs.Streams.{part_end}
 use Rattle.raw_streams.proofs.read.read_bytes.Goals as goal
 
