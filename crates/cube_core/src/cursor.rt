@@ -177,6 +177,9 @@ fn spot_ahead(shape: Shape, order: Order, spot: Spot, most: u64) -> (Spot, u64)
 
 /// Returns the spot of the same band and row, as many columns of the group's bands further on as `most` places and the row have, and how
 /// many places away it is.
+///
+/// It isn't inlined: a walk from column to column, which doesn't call it, would pay for its locals.
+#[inline(never)]
 fn columns_ahead(shape: Shape, order: Order, spot: Spot, most: u64) -> (Spot, u64)
     requires order { IsOrder shape order }
     requires by_columns { goes_along_rows order ≡ false }
