@@ -14,7 +14,8 @@ refused write with `Write` and the bytes that were written before it. Pieces as 
 end after their header, whatever sizes it announces.
 
 Finally, the same is done to `refused_allocations`, a program that calls the libraries and repeats each library call that is refused.
-Whichever allocation that is, its bodies and files are those of an undisturbed run. In a pipeline in which a predictor is stopped,
+The first few, those of its own words, end it with status 1 before any call; whichever other allocation that is, its bodies and files are
+those of an undisturbed run. In a pipeline in which a predictor is stopped,
 as many refusals are reported as where none is: the stop doesn't take their place. `rt ci` builds both programs where this script
 looks for them; `make` builds the first.
 """
@@ -254,6 +255,8 @@ def limits(room, name, words, lines):
 NAMED = {b"write_header", b"read_header", b"BitWriter::reserve", b"lane", b"Weaver::new", b"cube_feeds", b"CutSink::new", b"Plan::new"}
 # What the program prints as the name where an allocation outside all calls, such as that of a line, made it repeat everything.
 EVERYTHING = {b"everything"}
+# How it ends where the memory for its own words is refused, before its first library call.
+NO_WORDS = (1, b"Error: out of memory\n", b"")
 
 
 def each_call(room, word):
@@ -263,7 +266,7 @@ def each_call(room, word):
     asked = statistics.median(all_asked(room, [word], 0, 5, CALLS))
     lines, last = wanted.rsplit(b"made again: ", 1)
     room.expect(f"calls, {word}", (status, last) == (DONE, b"0\n"), wanted)
-    again, names, unmet = 0, set(), 0
+    again, names, unmet, early = 0, set(), 0, 0
     for nth in range(1, MOST):
         found = room.run([word], refuse=nth, program=CALLS)
         if not room.met():
@@ -274,12 +277,11 @@ def each_call(room, word):
                 continue
             room.expect(f"calls, {word}: all are refused in turn", unmet <= 2, (unmet, asked))
             return lines, again, names
-        # If memory is refused before the first library call, or for the lines, the program ends with another status and prints nothing.
-        early = found[0] != DONE and found[2] == b""
+        early += found == NO_WORDS
         repeated = found[2].startswith(lines + b"made again: 1\n")
         # A program that does without memory asks for no more than before; one that hides a refusal has to ask again.
         needless = found[2] == wanted and asks_no_more(room, [word], nth, asked, CALLS)
-        room.expect(f"calls, {word}: call {nth} refused", early or repeated or needless, (found, asked))
+        room.expect(f"calls, {word}: call {nth} refused", early == nth or repeated or needless, (found, asked))
         called = set(found[2].splitlines()[lines.count(b"\n") + 1 :]) if repeated else set()
         again += repeated and called != EVERYTHING
         names |= called - EVERYTHING
