@@ -13,11 +13,11 @@ Reads and writes are refused in the same way, and are split into pieces. A refus
 refused write with `Write` and the bytes that were written before it. Pieces as small as a byte change nothing. Then come files that
 end after their header, whatever sizes it announces.
 
-Finally, the same is done to `refused_allocations`, a program that calls the libraries and repeats each library call that is refused.
-The first few, those of its own words, end it with status 1 before any call; whichever other allocation that is, its bodies and files are
-those of an undisturbed run. In a pipeline in which a predictor is stopped,
-as many refusals are reported as where none is: the stop doesn't take their place. `rt ci` builds both programs where this script
-looks for them; `make` builds the first.
+Finally, the same is done to `refused_allocations`, a program that calls the libraries and repeats each library call that is
+refused. The first few, those of its own words, end it with status 1 before any call; whichever other allocation that is, its
+bodies and files are those of an undisturbed run. In a pipeline in which a predictor is stopped, as many refusals are reported as
+where none is: the stop doesn't take their place. `rt ci` builds both programs where this script looks for them; `make` builds the
+first.
 """
 
 import errno
