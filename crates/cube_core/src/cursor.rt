@@ -1,6 +1,6 @@
 //! A walk over the places of a cube in encoding order, which steps from place to place without a division.
 
-ghost use Rattle.std.specs.Prelude.{◌≡◌, ◌+◌, ◌<◌, ◌≤◌, ℕ, false, Some, length, drop, slice_get};
+ghost use Rattle.std.specs.Prelude.{◌≡◌, ◌+◌, ◌-◌, ◌*◌, ◌<◌, ◌≤◌, ℕ, false, Some, length, drop, slice_get};
 ghost use Rattle.std.specs.Iterator.{YieldsFirst, item_count};
 ghost use Rattle.cube_core.specs.declared.order.Place.{Place as APlace};
 ghost use Rattle.cube_core.specs.Shape.{InRange, sample_count};
@@ -147,7 +147,7 @@ fn first_spot(shape: Shape, order: Order) -> Spot
 }
 
 /// Returns the spot at most `most` places further on, and how many places away it is: in the same row where places go along rows;
-/// otherwise whole columns of bands away, or in the same column.
+/// otherwise whole columns of bands away, and then in the same column.
 fn spot_ahead(shape: Shape, order: Order, spot: Spot, most: u64) -> (Spot, u64)
     requires order { IsOrder shape order }
     requires spot { IsSpot shape order spot }
@@ -163,38 +163,33 @@ fn spot_ahead(shape: Shape, order: Order, spot: Spot, most: u64) -> (Spot, u64)
             ..place
         };
         (Spot { place, ..spot }, on)
-    } else if most >= u64::from(spot.end - spot.first) && place.x + 1 < shape.columns() {
-        columns_ahead(shape, order, spot, most)
     } else {
-        let on = most.min(u64::from(spot.end - 1 - place.z));
+        let columns = columns_within(shape, order, spot, most);
+        let whole = columns * u64::from(spot.end - spot.first);
+        let on = (most - whole).min(u64::from(spot.end - 1 - place.z));
         let place = Place {
             z: place.z + on as u32,
-            ..place
+            y: place.y,
+            x: place.x + columns as u32,
         };
-        (Spot { place, ..spot }, on)
+        (Spot { place, ..spot }, whole + on)
     }
 }
 
-/// Returns the spot of the same band and row, as many columns of the group's bands further on as `most` places and the row have, and how
-/// many places away it is.
-///
-/// It isn't inlined: a walk from column to column, which doesn't call it, would pay for its locals.
-#[inline(never)]
-fn columns_ahead(shape: Shape, order: Order, spot: Spot, most: u64) -> (Spot, u64)
+/// Returns how many columns of a group's bands are within `most` places and the rest of the row.
+#[inline(always)]
+fn columns_within(shape: Shape, order: Order, spot: Spot, most: u64) -> u64
     requires order { IsOrder shape order }
     requires by_columns { goes_along_rows order ≡ false }
     requires spot { IsSpot shape order spot }
-    ensures spot { IsSpot shape order result.0 }
-    ensures index { place_index shape order result.0.place ≡ place_index shape order spot.place + result.1 }
-    ensures most { result.1 ≤ most }
+    ensures few { result * (spot.end - spot.first) ≤ most }
+    ensures inside { spot.place.x + result < shape.columns }
 {
     let size = u64::from(spot.end - spot.first);
-    let columns = (most / size).min(u64::from(shape.columns() - 1 - spot.place.x));
-    let place = Place {
-        x: spot.place.x + columns as u32,
-        ..spot.place
-    };
-    (Spot { place, ..spot }, columns * size)
+    if most < size {
+        return 0;
+    }
+    (most / size).min(u64::from(shape.columns() - 1 - spot.place.x))
 }
 
 /// Returns the spot after one that isn't the last.
