@@ -2,6 +2,8 @@
 #![tactic(auto)]
 
 #[cfg(test)]
+mod band_groups;
+#[cfg(test)]
 mod block_coder;
 #[cfg(test)]
 mod bodies_by_hand;
@@ -39,5 +41,3 @@ mod rows;
 mod sample_coder;
 #[cfg(test)]
 mod sample_count;
-#[cfg(test)]
-mod two_bands;

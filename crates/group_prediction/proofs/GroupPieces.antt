@@ -1,8 +1,8 @@
 -- Some bands that advance by the same piece, one after another.
-use Rattle.std.proofs.Common.{◌≡◌, ◌+◌, ◌<◌, ◌≤◌, ℕ, List, [], ◌∷◌, ◌++◌, length, take, drop, get_or, set, sym, ap, ap₂, ◌∙◌}
-use Rattle.std.proofs.Common.{get_or-take, get_or-drop, get_or-set_other, length-set, take-add, take_all, arith}
+use Rattle.std.proofs.Common.{◌≡◌, ◌+◌, ◌<◌, ◌≤◌, ℕ, List, [], ◌∷◌, ◌++◌, length, take, drop, get_or, set, sym, ap, ◌∙◌}
+use Rattle.std.proofs.Common.{get_or-drop, take-add, take_all, arith}
 use Rattle.std.specs.List.{AllZip}
-use Rattle.std.proofs.lemmas.List.{take_more_set, drop_more, drop-set-lt, take-append-drop, drop-drop, length-take-le, set-append_left, set-append_right}
+use Rattle.std.proofs.lemmas.List.{take_more_set, drop_more, drop-set-lt, drop-drop}
 use Rattle.cube_core.specs.Image.{Image}
 use Rattle.predict_core.specs.Following.{PredictorState, HoldsPiece}
 
@@ -28,32 +28,6 @@ held_step c n i was bands b d lt h piece =
       done = rw (old, take_more_set bands i d lt) (zip_append (HoldsPiece c n) (take i was) _ (take i bands) _ h.done (piece, tt));
       left = drop-set-lt (i + 1) bands i d (omega arith) ∙ sym (ap (λ (bs : List PredictorState). drop 1 bs) rest) ∙ drop-drop 1 i was;
     }
-
--- two more, which are parted between them
-module _ (c : Image) (n i : ℕ) (was bands before rest : List PredictorState) (b d e f : PredictorState) (lt : i + 1 < length bands)
-    (front : before ≡ take (i + 1) bands) (back : rest ≡ drop (i + 1) bands) where
-  first_is : get_or before i b ≡ get_or bands i b
-  first_is = rw front (get_or-take (i + 1) bands i b (omega arith))
-
-  second_is : get_or rest 0 e ≡ get_or bands (i + 1) e
-  second_is = rw (back, get_or-drop (i + 1) bands 0 e) (ap (λ k. get_or bands k e) (omega arith))
-
-  joined : set (set bands i d) (i + 1) f ≡ set before i d ++ set rest 0 f
-  joined =
-      let long : length before ≡ i + 1 = ap length front ∙ length-take-le (i + 1) bands (omega (arith, lt)) in
-      ap (λ bs. set (set bs i d) (i + 1) f) (sym (take-append-drop (i + 1) bands) ∙ ap₂ (λ xs ys. xs ++ ys) (sym front) (sym back))
-      ∙ ap (λ bs. set bs (i + 1) f) (set-append_left before rest i d (omega (arith, long)))
-      ∙ set-append_right (set before i d) rest (i + 1) (i + 1) f (length-set before i d ∙ long) (omega arith)
-      ∙ ap (λ k. set before i d ++ set rest k f) (omega arith)
-
-  pub held_two : HeldUpTo c n i was bands → HoldsPiece c n (get_or before i b) d → HoldsPiece c n (get_or rest 0 e) f
-      → HeldUpTo c n (i + 1 + 1) was (set before i d ++ set rest 0 f)
-  held_two h piece other =
-      let later : get_or rest 0 e ≡ get_or (set bands i d) (i + 1) e =
-      second_is ∙ sym (get_or-set_other bands i (i + 1) d e (λ h. absurd (omega (arith, h)))) in
-      let one = held_step c n i was bands b d (omega (arith, lt)) h (rw first_is at piece) in
-      let two = held_step c n (i + 1) was (set bands i d) e f (rw length-set lt) one (rw later at other) in
-      rw (← joined) two
 
 -- in the end all of them have
 pub all_held : (c : Image) (n i : ℕ) (was bands : List PredictorState) → HeldUpTo c n i was bands → length bands ≡ length was → length was ≤ i

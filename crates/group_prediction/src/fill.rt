@@ -30,8 +30,8 @@ pub(crate) fn fill_lane(
     fill_band(&band.settings, rows, y, x, count, before, n, out);
 }
 
-/// Writes the lines of the next `count` places of eight bands, with `n` lines of components: after the last band it stands for the
-/// others.
+/// Writes the lines of the next `count` places of one to eight bands, with `n` lines of components. In the lanes after the last band are its
+/// lines again.
 pub(crate) fn fill_lanes(
     bands: &[Band],
     rows: &Rows,
@@ -42,7 +42,7 @@ pub(crate) fn fill_lanes(
     out: &mut [BandLines; 8],
 )
     requires row { rows.now.y ≡ y }
-    requires some_bands { 1 ≤ length bands.now }
+    requires some_bands { (1 ≤ length bands.now) × (length bands.now ≤ 8) }
     requires next { (i : ℕ) (b : PredictorState) → slice_get bands.now i ≡ Some b → IsPieceNext b rows.now.image y x count }
     requires alike { AreAlike bands.now }
     requires bits { rows.now.image.kind.bits ≤ 12 }
@@ -51,9 +51,21 @@ pub(crate) fn fill_lanes(
     ensures { (i : ℕ) (b : PredictorState) → i < 8 → slice_get bands.now (min i (length bands.now - 1)) ≡ Some b
         → AreBandsLines n b.predictor b.band rows.now.image y x count (slice_index_or out.new i no_lines) }
 {
-    for i in 0..8usize {
-        let band = &bands[i.min(bands.len() - 1)];
+    for i in 0..bands.len() {
+        let band = &bands[i];
         let (before, rest) = out.split_at_mut(i);
         fill_lane(band, rows, y, x, count, before, n, &mut rest[0]);
+    }
+    repeat_last(bands.len(), out);
+}
+
+/// Copies the lines of the last of `many` bands into the lanes after it.
+fn repeat_last(many: usize, out: &mut [BandLines; 8])
+    requires { (1 ≤ many) × (many ≤ 8) }
+    ensures { (i : ℕ) → i < 8 → slice_index_or out.new i no_lines ≡ slice_index_or out.old (min i (many - 1)) no_lines }
+{
+    for i in many..8usize {
+        let last = out[many - 1];
+        out[i] = last;
     }
 }

@@ -10,6 +10,7 @@ mod lines;
 mod long;
 mod mapping;
 mod pairs;
+mod places;
 pub mod predict;
 pub mod room;
 mod side_by_side;

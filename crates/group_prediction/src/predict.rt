@@ -28,7 +28,7 @@ const LEAST_PLACES: usize = 16;
 /// The bands are 1 to 8, all with the same parameters, and `count` is at most 64. All places are in the row of `rows`, and the
 /// first of them is the next one of each band, at column `x`. The image has the shape and kind of the parameters.
 /// For each band this does what `predict_piece` does (CCSDS 123.0-B-1, "Predictor"). Where no register of the bands can wrap they go
-/// side by side, in lanes of 16 bits if these are exact for the parameters and else of 32, and otherwise two at a time.
+/// side by side, in lanes of 16 bits if these are exact for the parameters and else of 32, and otherwise one after another.
 pub fn predict_group(bands: &mut [Band], rows: &Rows, x: u32, count: usize, room: &mut GroupRoom)
     requires few { (1 ≤ length bands.old) × (length bands.old ≤ 8) }
     requires next { ArePiecesNext bands.old rows.now.image rows.now.y x count }
@@ -41,7 +41,7 @@ pub fn predict_group(bands: &mut [Band], rows: &Rows, x: u32, count: usize, room
     {
         return;
     }
-    predict_in_pairs(bands, rows, y, x, count);
+    predict_each(bands, rows, y, x, count);
 }
 
 /// Advances the bands side by side, in the shortest lanes that are exact for them, and returns whether there are any. If not, no band
@@ -55,7 +55,7 @@ fn predict_in_lanes(
     room: &mut GroupRoom,
 ) -> bool
     requires row { rows.now.y ≡ y }
-    requires few { (4 ≤ length bands.old) × (length bands.old ≤ 8) }
+    requires few { (1 ≤ length bands.old) × (length bands.old ≤ 8) }
     requires some { 1 ≤ count }
     requires next { ArePiecesNext bands.old rows.now.image y x count }
     ensures held { result ≡ true → AllZip (HoldsPiece rows.now.image count) bands.old bands.new }
@@ -78,7 +78,7 @@ fn predict_in_long_lanes(
     room: &mut GroupRoom,
 ) -> bool
     requires row { rows.now.y ≡ y }
-    requires few { (4 ≤ length bands.old) × (length bands.old ≤ 8) }
+    requires few { (1 ≤ length bands.old) × (length bands.old ≤ 8) }
     requires some { 1 ≤ count }
     requires next { ArePiecesNext bands.old rows.now.image y x count }
     ensures held { result ≡ true → AllZip (HoldsPiece rows.now.image count) bands.old bands.new }
@@ -92,22 +92,14 @@ fn predict_in_long_lanes(
     true
 }
 
-/// Advances the bands two at a time.
-fn predict_in_pairs(bands: &mut [Band], rows: &Rows, y: u32, x: u32, count: usize)
+/// Advances the bands one after another.
+fn predict_each(bands: &mut [Band], rows: &Rows, y: u32, x: u32, count: usize)
     requires row { rows.now.y ≡ y }
-    requires few { (1 ≤ length bands.old) × (length bands.old ≤ 8) }
     requires next { ArePiecesNext bands.old rows.now.image y x count }
     ensures held { AllZip (HoldsPiece rows.now.image count) bands.old bands.new }
 {
-    let pairs = bands.len() / 2;
-    for k in 0..pairs {
-        let (before, rest) = bands.split_at_mut(2 * k + 1);
-        let band = &mut before[2 * k];
-        let other = &mut rest[0];
-        band.predict_pieces(other, rows, x, count);
-    }
-    if 2 * pairs < bands.len() {
-        let band = &mut bands[2 * pairs];
+    for k in 0..bands.len() {
+        let band = &mut bands[k];
         band.predict_piece(rows, x, count);
     }
 }
@@ -177,7 +169,7 @@ fn predict_by_long(
 )
     requires row { rows.now.y ≡ y }
     requires pairs { pairs ≤ 9 }
-    requires few { (4 ≤ length bands.old) × (length bands.old ≤ 8) }
+    requires few { (1 ≤ length bands.old) × (length bands.old ≤ 8) }
     requires ready { AreLongReady pairs bands.old rows.now.image y x count }
     ensures { AllZip (HoldsPiece rows.now.image count) bands.old bands.new }
 {

@@ -10,49 +10,47 @@ ghost use Rattle.predict_core.specs.BandLanes.{IsNarrow};
 ghost use Rattle.predict_core.specs.RunChains.{AreStepsThere, IsFollowed};
 
 use crate::chain::follow_places;
+use crate::places::Places;
 use band_lanes::pairs::{MOST_PAIRS, Pairs};
 use band_lanes::step::Step;
 use predict_core::settings::Settings;
 use sample_prediction::exponent::{exponent_at, places_alike};
 
-/// Writes the predicted central differences of the places `first..last` of a piece, each held in 16 bits, and updates the weights.
+/// Writes the predicted central differences of the places of a piece that aren't the first of their band, each held in 16 bits, and
+/// updates the weights.
 ///
-/// The place `first` is not the first of its band. `settings` are those of one of the bands, which have the same parameters
-/// (CCSDS 123.0-B-1, "Weight Update").
+/// `settings` are those of one of the bands, which have the same parameters (CCSDS 123.0-B-1, "Weight Update").
 pub(crate) fn follow_piece<const Q: usize>(
     settings: &Settings,
-    y: u32,
-    x: u32,
-    first: usize,
-    last: usize,
+    places: Places,
     pairs: &[Pairs; MOST_PAIRS],
     own: &[[i16; 8]; 64],
     weights: &mut [[i16; 16]; MOST_PAIRS],
     parts: &mut [[i16; 8]; 64],
 )
     requires few { Q ≤ 9 }
-    requires order { first ≤ last }
-    requires last { last ≤ 64 }
-    requires row { y < 65536 }
-    requires inside { x + last ≤ settings.now.columns }
-    requires later { 0 < y + (x + first) }
+    requires order { places.first ≤ places.count }
+    requires last { places.count ≤ 64 }
+    requires row { places.y < 65536 }
+    requires inside { places.x + places.count ≤ settings.now.columns }
+    requires later { 0 < places.y + (places.x + places.first) }
     requires narrow { IsNarrow settings.now.predictor settings.now.range.bits }
-    requires below { (i : ℕ) → first ≤ i → i < last → AreBelow (2 ^ (settings.now.range.bits + 2)) Q pairs.now i }
+    requires below { (i : ℕ) → places.first ≤ i → i < places.count → AreBelow (2 ^ (settings.now.range.bits + 2)) Q pairs.now i }
     requires weights_in { (b : ℕ) → b < 8 → AllWithin (2 ^ (settings.now.predictor.omega + 2)) (weights_of Q b weights.old) }
     ensures weights_in { (b : ℕ) → b < 8 → AllWithin (2 ^ (settings.now.predictor.omega + 2)) (weights_of Q b weights.new) }
-    ensures followed { (b : ℕ) (s : Constants) (c : Image) → b < 8 → IsLane Q b s c y x last own.now pairs.now → s.predictor ≡ settings.now.predictor
+    ensures followed { (b : ℕ) (s : Constants) (c : Image) → b < 8 → IsLane Q b s c places.y places.x places.count own.now pairs.now → s.predictor ≡ settings.now.predictor
         → s.range.kind ≡ settings.now.range.kind → s.columns ≡ settings.now.columns
-        → IsFollowed s c y x first (weights_of Q b weights.old) first (weights_of Q b weights.old) (numbers_of b parts.old)
-        → IsFollowed s c y x first (weights_of Q b weights.old) last (weights_of Q b weights.new) (numbers_of b parts.new) }
+        → IsFollowed s c places.y places.x places.first (weights_of Q b weights.old) places.first (weights_of Q b weights.old) (numbers_of b parts.old)
+        → IsFollowed s c places.y places.x places.first (weights_of Q b weights.old) places.count (weights_of Q b weights.new) (numbers_of b parts.new) }
 {
     let predictor = &settings.predictor;
     let columns = settings.columns;
     let bits = settings.range.bits;
-    let start = y as u64 * columns as u64 + x as u64;
-    let mut at = first;
-    while at < last {
+    let start = places.y as u64 * columns as u64 + places.x as u64;
+    let mut at = places.first;
+    while at < places.count {
         let t = start + at as u64;
-        let next = at + places_alike(predictor, columns, t, last - at);
+        let next = at + places_alike(predictor, columns, t, places.count - at);
         let step = Step::new(
             predictor.omega,
             bits,

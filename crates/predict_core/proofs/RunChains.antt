@@ -1,5 +1,5 @@
 -- Runs whose samples are known: a run begun, and its first places.
-use Rattle.std.proofs.Common.{◌≡◌, ℕ, ◌+◌, ◌*◌, ◌^◌, ◌<◌, ◌≤◌, Bool, false, ℤ, List, take, slice_index_or, sym, ap, ◌∙◌, subst, arith, inl, inr}
+use Rattle.std.proofs.Common.{◌≡◌, ℕ, ◌+◌, ◌*◌, ◌^◌, ◌<◌, ◌≤◌, Bool, false, ℤ, List, take, slice_index_or, ap, ◌∙◌, subst, arith, inl, inr}
 use Rattle.std.proofs.lemmas.Bool.{cases_eq}
 use Rattle.header_bits.specs.declared.params.Params.{Params}
 use Rattle.cube_core.specs.Image.{Image}
@@ -10,9 +10,8 @@ use Rattle.sample_prediction.specs.Bounds.{AllWithin}
 use Rattle.sample_prediction.specs.Chain.{AreWeightsAt}
 use Rattle.sample_prediction.specs.Prediction.{weight_vector}
 use Rattle.sample_prediction.specs.Residual.{run_residuals}
-use Rattle.predict_core.specs.RunChains.{CanFollow, CanPredict, AreStepsThere, IsFirstLater, IsFollowed, HasPredicted}
+use Rattle.predict_core.specs.RunChains.{CanFollow, CanPredict, IsFirstLater, IsFollowed, HasPredicted}
 use Rattle.predict_core.specs.Rooms.{IsRoom, quads_of}
-use Rattle.sample_prediction.specs.Weights.{step_exponent}
 use Rattle.predict_core.proofs.WholeRuns.{started}
 
 -- what is told of a run is told of its first places
@@ -50,15 +49,6 @@ at_first p made c z y x first ws h f =
   where
     same : (y columns : ℕ) → first ≡ 0 → y * columns + x ≡ y * columns + (x + first)
     same y columns e = omega (arith, e)
-
--- the steps are the same for bands with the same parameters
-pub same_steps : (s other : Settings) (c : Image) (fraction bits : ℕ) (exponent : ℤ) (y x : ℕ) → other.predictor ≡ s.predictor
-    → other.range.kind ≡ s.range.kind → AreStepsThere s c fraction bits exponent y x → AreStepsThere other c fraction bits exponent y x
-same_steps s other c fraction bits exponent y x same kind h = record {
-  omega_is = h.omega_is ∙ ap (λ (p : Predictor). p.omega) (sym same);
-  bits_are = h.bits_are ∙ s.range.bits_is ∙ ap (λ k. k.bits) (sym kind) ∙ sym other.range.bits_is;
-  exponent_is = h.exponent_is ∙ ap (λ p. step_exponent p c.shape.columns c.kind.bits (y * c.shape.columns + x)) (sym same);
-}
 
 -- a run is predicted where its chain was followed to its end and its residuals are written
 pub predicted : (s : Settings) (c : Image) (y x first n : ℕ) (old ws new parts : List ℤ) (rs : List ℕ) → IsFirstLater y x first

@@ -4,7 +4,7 @@
 //! wraps in the register, the weights don't wait for the prediction and its clip. The part of a place's work
 //! that has to wait for the place before is thus short; predictions and residuals are computed afterwards.
 
-ghost use Rattle.std.specs.Prelude.{◌≡◌, ◌+◌, ◌-◌, ◌*◌, ◌^◌, ◌<◌, ◌≤◌, true, false, ℕ, pos, negsuc, ◌≤ℤ◌, ◌+ℤ◌, ◌-ℤ◌, ◌*ℤ◌, int_lt, int_le, unsigned_abs, ℤ};
+ghost use Rattle.std.specs.Prelude.{◌≡◌, ◌+◌, ◌-◌, ◌*◌, ◌^◌, ◌<◌, ◌≤◌, false, ℕ, pos, negsuc, ◌≤ℤ◌, ◌+ℤ◌, ◌-ℤ◌, ◌*ℤ◌, int_lt, int_le, unsigned_abs, ℤ};
 ghost use Rattle.std.specs.Prelude.{List, length, take, ◌++◌, replicate};
 ghost use Rattle.cube_core.specs.Image.{IsPlace};
 ghost use Rattle.cube_core.specs.Kind.{smin};
@@ -237,13 +237,11 @@ impl RunState {
     }
 }
 
-/// Writes the predicted central differences of the places `first..last` of a run, and updates the weights; with
-/// `PAIR` also those of the same places of another run, a step of one beside a step of the other.
+/// Writes the predicted central differences of the places `first..last` of a run, and updates the weights.
 ///
-/// No place of one band waits for a place of the other, so the processor works on both at once.
-/// The weights are kept in copies of their own, so that the compiler can keep them in registers.
+/// The weights are kept in a copy of their own, so that the compiler can keep them in registers.
 #[inline(always)]
-pub(crate) fn follow_places<const Q: usize, const N: usize, const WRAPS: bool, const PAIR: bool>(
+pub(crate) fn follow_places<const Q: usize, const N: usize, const WRAPS: bool>(
     rows: &Rows,
     y: u32,
     x: u32,
@@ -252,42 +250,19 @@ pub(crate) fn follow_places<const Q: usize, const N: usize, const WRAPS: bool, c
     steps: Steps,
     run: KnownRun<Q>,
     state: &mut RunState,
-    other: KnownRun<Q>,
-    beside: &mut RunState,
 )
     requires run { CanFollow Q N WRAPS run.settings.now rows.now.image y x last run.sums.now run.own.now run.quads.now }
-    requires other { CanFollow Q N WRAPS other.settings.now rows.now.image y x last other.sums.now other.own.now other.quads.now }
     requires order { first ≤ last }
     requires later { 0 < y + (x + first) }
     requires steps { (i : ℕ) → first ≤ i → i < last → AreStepsThere run.settings.now rows.now.image steps.omega steps.bits steps.exponent y (x + i) }
-    requires same { other.settings.now.predictor ≡ run.settings.now.predictor }
     requires weights_in { AllWithin (2 ^ (run.settings.now.predictor.omega + 2)) state.old.weights }
-    requires other_weights_in { AllWithin (2 ^ (run.settings.now.predictor.omega + 2)) beside.old.weights }
     ensures followed { (start : ℕ) (begun : List ℤ) → IsFollowed run.entry.settings.now rows.now.image y x start begun first state.old.weights state.old.parts
         → IsFollowed run.entry.settings.now rows.now.image y x start begun last state.new.weights state.new.parts }
-    ensures other_followed { PAIR ≡ true → (start : ℕ) (begun : List ℤ)
-        → IsFollowed other.entry.settings.now rows.now.image y x start begun first beside.old.weights beside.old.parts
-        → IsFollowed other.entry.settings.now rows.now.image y x start begun last beside.new.weights beside.new.parts }
     ensures bound { AllWithin (2 ^ (run.entry.settings.now.predictor.omega + 2)) state.new.weights }
-    ensures other_bound { AllWithin (2 ^ (run.entry.settings.now.predictor.omega + 2)) beside.new.weights }
 {
     let mut working = state.weights;
-    let mut second = beside.weights;
     for i in first..last {
         follow_place::<Q, N, WRAPS>(rows, y, x, i, steps, run, &mut state.parts, &mut working);
-        if PAIR {
-            follow_place::<Q, N, WRAPS>(
-                rows,
-                y,
-                x,
-                i,
-                steps,
-                other,
-                &mut beside.parts,
-                &mut second,
-            );
-        }
     }
     state.weights = working;
-    beside.weights = second;
 }

@@ -1,6 +1,6 @@
-//! Predicting a run whose samples are known: of one band, or of two bands at once.
+//! Predicting a run whose samples are known.
 
-ghost use Rattle.std.specs.Prelude.{◌≡◌, ◌+◌, ◌*◌, ◌^◌, ◌<◌, ◌≤◌, true, false, ℕ, ℤ, pos, unsigned_abs, List, take, length, slice_index, slice_index_or};
+ghost use Rattle.std.specs.Prelude.{◌≡◌, ◌+◌, ◌*◌, ◌^◌, ◌<◌, ◌≤◌, false, ℕ, ℤ, pos, unsigned_abs, List, take, length, slice_index, slice_index_or};
 ghost use Rattle.cube_core.specs.Image.{IsPlace};
 ghost use Rattle.header_bits.specs.declared.params.Params.{Params as Parameters};
 ghost use Rattle.sample_prediction.specs.Chain.{AreWeightsAt};
@@ -17,69 +17,56 @@ use crate::settings::Settings;
 use sample_prediction::predictor::MOST_COMPONENTS;
 use sample_prediction::rows::Rows;
 
-/// Computes the mapped residuals of a run of `count` places, and updates the weights; with `PAIR` also those of the same
-/// places of another band, which uses as many weights.
-pub(crate) fn predict_run<const PAIR: bool>(
+/// Computes the mapped residuals of a run of `count` places, and updates the weights.
+pub(crate) fn predict_run(
     rows: &Rows,
     y: u32,
     x: u32,
     count: usize,
     settings: &Settings,
     state: &mut RunState,
-    other: &Settings,
-    beside: &mut RunState,
 )
     requires row { rows.now.y ≡ y }
     requires run { CanPredict settings.now rows.now.image y x count state.old.weights }
-    requires other { CanPredict other.now rows.now.image y x count beside.old.weights }
-    requires alike { (other.now.predictor ≡ settings.now.predictor) × (other.now.count ≡ settings.now.count) }
-    ensures predicted { HasPredicted settings.now rows.now.image y x count state.old.weights state.new.weights state.new.residuals }
-    ensures other_predicted { PAIR ≡ true → HasPredicted other.now rows.now.image y x count beside.old.weights beside.new.weights beside.new.residuals }
+    ensures { HasPredicted settings.now rows.now.image y x count state.old.weights state.new.weights state.new.residuals }
 {
     let wraps = settings.predictor.register < 46;
     if wraps {
-        predict_in::<true, PAIR>(rows, y, x, count, settings, state, other, beside);
+        predict_in::<true>(rows, y, x, count, settings, state);
     } else {
-        predict_in::<false, PAIR>(rows, y, x, count, settings, state, other, beside);
+        predict_in::<false>(rows, y, x, count, settings, state);
     }
 }
 
 /// `predict_run` for a register that may wrap (`WRAPS`) or has 46 bits or more and never does.
 ///
 /// The number of weights is found once, so that the compiler knows it in the loops over places.
-fn predict_in<const WRAPS: bool, const PAIR: bool>(
+fn predict_in<const WRAPS: bool>(
     rows: &Rows,
     y: u32,
     x: u32,
     count: usize,
     settings: &Settings,
     state: &mut RunState,
-    other: &Settings,
-    beside: &mut RunState,
 )
     requires row { rows.now.y ≡ y }
     requires register { WRAPS ≡ false → 46 ≤ settings.now.predictor.register }
     requires run { CanPredict settings.now rows.now.image y x count state.old.weights }
-    requires other { CanPredict other.now rows.now.image y x count beside.old.weights }
-    requires alike { (other.now.predictor ≡ settings.now.predictor) × (other.now.count ≡ settings.now.count) }
-    ensures predicted { HasPredicted settings.now rows.now.image y x count state.old.weights state.new.weights state.new.residuals }
-    ensures other_predicted { PAIR ≡ true → HasPredicted other.now rows.now.image y x count beside.old.weights beside.new.weights beside.new.residuals }
+    ensures { HasPredicted settings.now rows.now.image y x count state.old.weights state.new.weights state.new.residuals }
 {
     let weights = settings.count;
     if weights == 0 {
-        predict_by::<0, 0, WRAPS, PAIR>(rows, y, x, count, settings, state, other, beside);
+        predict_by::<0, 0, WRAPS>(rows, y, x, count, settings, state);
     } else if weights <= 4 {
-        predict_by::<1, 4, WRAPS, PAIR>(rows, y, x, count, settings, state, other, beside);
+        predict_by::<1, 4, WRAPS>(rows, y, x, count, settings, state);
     } else if weights <= 8 {
-        predict_by::<2, 8, WRAPS, PAIR>(rows, y, x, count, settings, state, other, beside);
+        predict_by::<2, 8, WRAPS>(rows, y, x, count, settings, state);
     } else if weights <= 12 {
-        predict_by::<3, 12, WRAPS, PAIR>(rows, y, x, count, settings, state, other, beside);
+        predict_by::<3, 12, WRAPS>(rows, y, x, count, settings, state);
     } else if weights <= 16 {
-        predict_by::<4, 16, WRAPS, PAIR>(rows, y, x, count, settings, state, other, beside);
+        predict_by::<4, 16, WRAPS>(rows, y, x, count, settings, state);
     } else {
-        predict_by::<5, MOST_COMPONENTS, WRAPS, PAIR>(
-            rows, y, x, count, settings, state, other, beside,
-        );
+        predict_by::<5, MOST_COMPONENTS, WRAPS>(rows, y, x, count, settings, state);
     }
 }
 
@@ -87,15 +74,13 @@ fn predict_in<const WRAPS: bool, const PAIR: bool>(
 ///
 /// What depends on the samples alone is computed first, for all places at once; then the predicted differences,
 /// one after another; and then all residuals at once.
-fn predict_by<const Q: usize, const N: usize, const WRAPS: bool, const PAIR: bool>(
+fn predict_by<const Q: usize, const N: usize, const WRAPS: bool>(
     rows: &Rows,
     y: u32,
     x: u32,
     count: usize,
     settings: &Settings,
     state: &mut RunState,
-    other: &Settings,
-    beside: &mut RunState,
 )
     requires row { rows.now.y ≡ y }
     requires few { N ≤ 18 }
@@ -103,10 +88,7 @@ fn predict_by<const Q: usize, const N: usize, const WRAPS: bool, const PAIR: boo
     requires quads { Q ≡ quads_of settings.now.count }
     requires register { WRAPS ≡ false → 46 ≤ settings.now.predictor.register }
     requires run { CanPredict settings.now rows.now.image y x count state.old.weights }
-    requires other { CanPredict other.now rows.now.image y x count beside.old.weights }
-    requires alike { (other.now.predictor ≡ settings.now.predictor) × (other.now.count ≡ settings.now.count) }
-    ensures predicted { HasPredicted settings.now rows.now.image y x count state.old.weights state.new.weights state.new.residuals }
-    ensures other_predicted { PAIR ≡ true → HasPredicted other.now rows.now.image y x count beside.old.weights beside.new.weights beside.new.residuals }
+    ensures { HasPredicted settings.now rows.now.image y x count state.old.weights state.new.weights state.new.residuals }
 {
     let first = first_later(y, x);
     let none = Quad {
@@ -122,24 +104,8 @@ fn predict_by<const Q: usize, const N: usize, const WRAPS: bool, const PAIR: boo
         own: &own,
         quads: &quads,
     };
-    if PAIR {
-        let mut sums = [0; 64];
-        let mut own = [0; 64];
-        let mut quads = [none; Q];
-        fill_run::<Q>(other, rows, y, x, count, &mut sums, &mut own, &mut quads);
-        let next = KnownRun {
-            settings: other,
-            sums: &sums,
-            own: &own,
-            quads: &quads,
-        };
-        follow_run::<Q, N, WRAPS, PAIR>(rows, y, x, first, count, run, state, next, beside);
-        write_residuals::<Q>(rows, y, x, first, count, run, state);
-        write_residuals::<Q>(rows, y, x, first, count, next, beside);
-    } else {
-        follow_run::<Q, N, WRAPS, PAIR>(rows, y, x, first, count, run, state, run, beside);
-        write_residuals::<Q>(rows, y, x, first, count, run, state);
-    }
+    follow_run::<Q, N, WRAPS>(rows, y, x, first, count, run, state);
+    write_residuals::<Q>(rows, y, x, first, count, run, state);
 }
 
 /// Writes the mapped residuals of a run of `count` places, all at once, when the differences from its place `first` on

@@ -4,9 +4,6 @@ ghost use Rattle.std.specs.Prelude.{◌≡◌, ◌<◌, ◌≤◌, take, length,
 ghost use Rattle.predict_core.specs.Following.{IsPieceNext, HoldsPiece};
 
 use crate::band::Band;
-use crate::chain::RunState;
-use crate::known_run::predict_run;
-use crate::run::LEAST;
 use sample_prediction::rows::Rows;
 
 impl Band {
@@ -22,38 +19,6 @@ impl Band {
         let mut piece = [0; 64];
         self.forward_run(rows, x, &mut piece[..count]);
         self.piece = piece;
-    }
-
-    /// Advances by `count` places of a row, and another band's predictor by the same places of its band; each
-    /// holds its mapped residuals until its next piece.
-    ///
-    /// `count` is at most 64. Both bands have the same parameters, and for each this does what `predict_piece` does.
-    /// No place of one band waits for a place of the other, so the processor works on both at once, in less time than
-    /// on one after the other (CCSDS 123.0-B-1, "Predictor"). Short pieces, and bands with different numbers of weights,
-    /// are predicted one after the other.
-    pub fn predict_pieces(&mut self, other: &mut Band, rows: &Rows, x: u32, count: usize)
-        requires next { IsPieceNext self.old rows.now.image rows.now.y x count }
-        requires other_next { IsPieceNext other.old rows.now.image rows.now.y x count }
-        requires alike { other.old.predictor ≡ self.old.predictor }
-        ensures held { HoldsPiece rows.now.image count self.old self.new }
-        ensures other_held { HoldsPiece rows.now.image count other.old other.new }
-    {
-        let y = rows.y();
-        if count < LEAST || self.settings.count != other.settings.count {
-            self.predict_piece(rows, x, count);
-            other.predict_piece(rows, x, count);
-            return;
-        }
-        self.next += count as u64;
-        other.next += count as u64;
-        let (settings, others) = (&self.settings, &other.settings);
-        let mut state = RunState::new(self.weights);
-        let mut beside = RunState::new(other.weights);
-        predict_run::<true>(rows, y, x, count, settings, &mut state, others, &mut beside);
-        self.weights = state.weights;
-        self.piece = state.residuals;
-        other.weights = beside.weights;
-        other.piece = beside.residuals;
     }
 
     /// Returns the mapped residual of place `i`, 0 to 63, of the last piece. From the length of the piece on it is unspecified.

@@ -1,6 +1,6 @@
 //! The chain of a run, cut where the exponent of the steps changes.
 
-ghost use Rattle.std.specs.Prelude.{◌≡◌, ◌+◌, ◌^◌, ◌<◌, ◌≤◌, true, ℕ, ℤ, List};
+ghost use Rattle.std.specs.Prelude.{◌+◌, ◌^◌, ◌<◌, ◌≤◌};
 ghost use Rattle.sample_prediction.specs.Bounds.{AllWithin};
 ghost use Rattle.predict_core.specs.RunChains.{CanFollow, IsFollowed};
 
@@ -8,13 +8,12 @@ use crate::chain::{KnownRun, RunState, Steps, follow_places};
 use sample_prediction::exponent::{exponent_at, places_alike};
 use sample_prediction::rows::Rows;
 
-/// Writes the predicted central differences of the places `first..last` of a run, and updates the weights; with
-/// `PAIR` also those of the same places of another run.
+/// Writes the predicted central differences of the places `first..last` of a run, and updates the weights.
 ///
 /// The place `first` is not the first of its band. The differences are in `Q` quads, and `N` weights are used
 /// (CCSDS 123.0-B-1, "Weight Update").
 #[inline(always)]
-pub(crate) fn follow_run<const Q: usize, const N: usize, const WRAPS: bool, const PAIR: bool>(
+pub(crate) fn follow_run<const Q: usize, const N: usize, const WRAPS: bool>(
     rows: &Rows,
     y: u32,
     x: u32,
@@ -22,20 +21,13 @@ pub(crate) fn follow_run<const Q: usize, const N: usize, const WRAPS: bool, cons
     last: usize,
     run: KnownRun<Q>,
     state: &mut RunState,
-    other: KnownRun<Q>,
-    beside: &mut RunState,
 )
     requires run { CanFollow Q N WRAPS run.settings.now rows.now.image y x last run.sums.now run.own.now run.quads.now }
-    requires other { CanFollow Q N WRAPS other.settings.now rows.now.image y x last other.sums.now other.own.now other.quads.now }
     requires order { first ≤ last }
     requires later { 0 < y + (x + first) }
-    requires same { other.settings.now.predictor ≡ run.settings.now.predictor }
     requires weights_in { AllWithin (2 ^ (run.settings.now.predictor.omega + 2)) state.old.weights }
-    requires other_weights_in { AllWithin (2 ^ (run.settings.now.predictor.omega + 2)) beside.old.weights }
     ensures followed { IsFollowed run.entry.settings.now rows.now.image y x first state.old.weights last state.new.weights state.new.parts }
-    ensures other_followed { PAIR ≡ true → IsFollowed other.entry.settings.now rows.now.image y x first beside.old.weights last beside.new.weights beside.new.parts }
     ensures bound { AllWithin (2 ^ (run.entry.settings.now.predictor.omega + 2)) state.new.weights }
-    ensures other_bound { AllWithin (2 ^ (run.entry.settings.now.predictor.omega + 2)) beside.new.weights }
 {
     rows.prove_is_row();
     let predictor = &run.settings.predictor;
@@ -51,7 +43,7 @@ pub(crate) fn follow_run<const Q: usize, const N: usize, const WRAPS: bool, cons
             bits,
             exponent: exponent_at(predictor, columns, bits, t),
         };
-        follow_places::<Q, N, WRAPS, PAIR>(rows, y, x, at, next, steps, run, state, other, beside);
+        follow_places::<Q, N, WRAPS>(rows, y, x, at, next, steps, run, state);
         at = next;
     }
 }

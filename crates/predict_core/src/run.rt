@@ -45,9 +45,7 @@ impl Band {
         self.next += count as u64;
         let settings = &self.settings;
         let mut state = RunState::new(self.weights);
-        // There is one band: the state of a second one is unused.
-        let mut none = RunState::new(self.weights);
-        predict_run::<false>(rows, y, x, count, settings, &mut state, settings, &mut none);
+        predict_run(rows, y, x, count, settings, &mut state);
         self.weights = state.weights;
         residuals.copy_from_slice(&state.residuals[..count]);
     }

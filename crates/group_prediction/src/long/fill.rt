@@ -1,6 +1,6 @@
 //! What the samples tell of a piece of eight bands, in lines of 32 bits.
 
-ghost use Rattle.std.specs.Prelude.{◌≡◌, ◌-◌, ◌<◌, ◌≤◌, ℕ, min, length, slice_get, slice_index_or, Some};
+ghost use Rattle.std.specs.Prelude.{◌≡◌, ◌+◌, ◌-◌, ◌*◌, ◌/◌, ◌<◌, ◌≤◌, ℕ, min, length, slice_get, slice_index_or, Some};
 ghost use Rattle.predict_core.specs.Following.{IsPieceNext, PredictorState};
 ghost use Rattle.group_prediction.specs.GroupLines.{AreLongLines, AreAlike, HoldLongCentrals, HoldLongComponents, no_long_lines};
 
@@ -30,8 +30,8 @@ fn fill_lane(
     fill_band(&band.settings, rows, y, x, count, before, n, out);
 }
 
-/// Writes the lines of the next `count` places of eight bands, with `n` lines of components: after the last band it stands for the
-/// others.
+/// Writes the lines of the next `count` places of one to eight bands, with `n` lines of components. In the lanes after the last band, up to
+/// a multiple of four, are its lines again.
 pub(crate) fn fill_lanes(
     bands: &[Band],
     rows: &Rows,
@@ -42,17 +42,29 @@ pub(crate) fn fill_lanes(
     out: &mut [LongLines; 8],
 )
     requires row { rows.now.y ≡ y }
-    requires some_bands { 1 ≤ length bands.now }
+    requires some_bands { (1 ≤ length bands.now) × (length bands.now ≤ 8) }
     requires next { (i : ℕ) (b : PredictorState) → slice_get bands.now i ≡ Some b → IsPieceNext b rows.now.image y x count }
     requires alike { AreAlike bands.now }
     requires some { 1 ≤ count }
     requires lines { n ≤ 18 }
-    ensures { (i : ℕ) (b : PredictorState) → i < 8 → slice_get bands.now (min i (length bands.now - 1)) ≡ Some b
+    ensures { (i : ℕ) (b : PredictorState) → i < 4 * ((length bands.now + 3) / 4) → slice_get bands.now (min i (length bands.now - 1)) ≡ Some b
         → AreLongLines n b.predictor b.band rows.now.image y x count (slice_index_or out.new i no_long_lines) }
 {
-    for i in 0..8usize {
-        let band = &bands[i.min(bands.len() - 1)];
+    for i in 0..bands.len() {
+        let band = &bands[i];
         let (before, rest) = out.split_at_mut(i);
         fill_lane(band, rows, y, x, count, before, n, &mut rest[0]);
+    }
+    repeat_last(bands.len(), 4 * ((bands.len() + 3) / 4), out);
+}
+
+/// Copies the lines of the last of `many` bands into the lanes after it, up to lane `end`.
+fn repeat_last(many: usize, end: usize, out: &mut [LongLines; 8])
+    requires { (1 ≤ many) × (many ≤ end) × (end ≤ 8) }
+    ensures { (i : ℕ) → i < end → slice_index_or out.new i no_long_lines ≡ slice_index_or out.old (min i (many - 1)) no_long_lines }
+{
+    for i in many..end {
+        let last = out[many - 1];
+        out[i] = last;
     }
 }

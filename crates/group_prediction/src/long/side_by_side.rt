@@ -22,6 +22,7 @@ use crate::long::room::{FourRoom, LongRoom};
 use crate::long::rows::{fill_own, fill_rows};
 use crate::long::steps::follow_piece;
 use crate::long::weights::fill_weights;
+use crate::places::Places;
 use band_lanes::four::rows::Rows as LaneRows;
 use lanes::turn_four::turn_four_back;
 use predict_core::band::Band;
@@ -32,56 +33,48 @@ use sample_prediction::rows::Rows;
 /// `follow_piece` with the constants of a band's predictor.
 fn follow_band<const Q: usize>(
     band: &Band,
-    y: u32,
-    x: u32,
-    first: usize,
-    last: usize,
+    places: Places,
     rows: &[LaneRows; MOST_COMPONENTS],
     own: &[[i32; 4]; 64],
     weights: &mut [[i32; 4]; MOST_COMPONENTS],
     parts: &mut [[i32; 4]; 64],
 )
     requires few { Q ≤ 9 }
-    requires order { first ≤ last }
-    requires last { last ≤ 64 }
-    requires place { IsPlace band.now.shape band.now.band y x }
-    requires inside { x + last ≤ band.now.shape.columns }
-    requires later { 0 < y + (x + first) }
-    requires small { (i b : ℕ) → first ≤ i → i < last → b < 4 → AllWithin (2 ^ (band.now.kind.bits + 2)) (row_components (2 * Q) b rows.now i) }
+    requires order { places.first ≤ places.count }
+    requires last { places.count ≤ 64 }
+    requires place { IsPlace band.now.shape band.now.band places.y places.x }
+    requires inside { places.x + places.count ≤ band.now.shape.columns }
+    requires later { 0 < places.y + (places.x + places.first) }
+    requires small { (i b : ℕ) → places.first ≤ i → i < places.count → b < 4 → AllWithin (2 ^ (band.now.kind.bits + 2)) (row_components (2 * Q) b rows.now i) }
     requires weights_in { (b : ℕ) → b < 4 → AllWithin (2 ^ (band.now.predictor.omega + 2)) (column_of (2 * Q) b weights.old) }
     ensures weights_in { (b : ℕ) → b < 4 → AllWithin (2 ^ (band.now.predictor.omega + 2)) (column_of (2 * Q) b weights.new) }
-    ensures small { (i b : ℕ) → first ≤ i → i < last → b < 4 → unsigned_abs (place parts.new i b) ≤ 18 * 2 ^ 20 }
-    ensures followed { (b : ℕ) (s : Constants) (c : Image) → b < 4 → IsLongLane Q b s c y x last own.now rows.now → s.predictor ≡ band.now.predictor
+    ensures small { (i b : ℕ) → places.first ≤ i → i < places.count → b < 4 → unsigned_abs (place parts.new i b) ≤ 18 * 2 ^ 20 }
+    ensures followed { (b : ℕ) (s : Constants) (c : Image) → b < 4 → IsLongLane Q b s c places.y places.x places.count own.now rows.now → s.predictor ≡ band.now.predictor
         → s.range.kind ≡ band.now.kind → s.columns ≡ band.now.shape.columns
-        → IsFollowed s c y x first (column_of (2 * Q) b weights.old) first (column_of (2 * Q) b weights.old) (numbers_of b parts.old)
-        → IsFollowed s c y x first (column_of (2 * Q) b weights.old) last (column_of (2 * Q) b weights.new) (numbers_of b parts.new) }
+        → IsFollowed s c places.y places.x places.first (column_of (2 * Q) b weights.old) places.first (column_of (2 * Q) b weights.old) (numbers_of b parts.old)
+        → IsFollowed s c places.y places.x places.first (column_of (2 * Q) b weights.old) places.count (column_of (2 * Q) b weights.new) (numbers_of b parts.new) }
 {
-    follow_piece::<Q>(&band.settings, y, x, first, last, rows, own, weights, parts);
+    follow_piece::<Q>(&band.settings, places, rows, own, weights, parts);
 }
 
 /// Predicts the differences of a piece of one to four bands, whose lines are those from line `from` on.
-///
-/// `first` is the first place that isn't the first of the bands.
 fn predict_lanes<const Q: usize>(
     bands: &[Band],
     rows: &Rows,
-    y: u32,
-    x: u32,
-    first: usize,
-    count: usize,
+    places: Places,
     lines: &[LongLines; 8],
     from: usize,
     room: &mut FourRoom,
 )
     requires pairs { Q ≤ 9 }
     requires few { (1 ≤ length bands.now) × (length bands.now ≤ 4) }
-    requires ready { AreLongReady Q bands.now rows.now.image y x count }
-    requires first { IsFirstLater y x first }
+    requires ready { AreLongReady Q bands.now rows.now.image places.y places.x places.count }
+    requires first { IsFirstLater places.y places.x places.first }
     requires from { from + 4 ≤ 8 }
     requires lines { (b : ℕ) (s : PredictorState) → b < 4 → slice_get bands.now (min b (length bands.now - 1)) ≡ Some s
-        → AreLongLines (2 * Q) s.predictor s.band rows.now.image y x count (slice_index_or lines.now (from + b) no_long_lines) }
+        → AreLongLines (2 * Q) s.predictor s.band rows.now.image places.y places.x places.count (slice_index_or lines.now (from + b) no_long_lines) }
     ensures { (k : ℕ) (b : PredictorState) → slice_get bands.now k ≡ Some b
-        → IsLongPredicted Q k b rows.now.image y x first count (slice_index_or lines.now (from + k) no_long_lines).sums room.new.weights room.new.parts }
+        → IsLongPredicted Q k b rows.now.image places.y places.x places.first places.count (slice_index_or lines.now (from + k) no_long_lines).sums room.new.weights room.new.parts }
 {
     rows.prove_is_row();
     fill_weights::<Q>(bands, &mut room.weights);
@@ -90,10 +83,7 @@ fn predict_lanes<const Q: usize>(
     let band = &bands[0];
     follow_band::<Q>(
         band,
-        y,
-        x,
-        first,
-        count,
+        places,
         &room.components,
         &room.own,
         &mut room.weights,
@@ -106,26 +96,23 @@ fn predict_lanes<const Q: usize>(
 fn finish_lanes<const Q: usize>(
     bands: &mut [Band],
     rows: &Rows,
-    y: u32,
-    x: u32,
-    first: usize,
-    count: usize,
+    places: Places,
     lines: &[LongLines; 8],
     from: usize,
     room: &FourRoom,
 )
-    requires row { rows.now.y ≡ y }
+    requires row { rows.now.y ≡ places.y }
     requires pairs { Q ≤ 9 }
     requires few { (1 ≤ length bands.old) × (length bands.old ≤ 4) }
-    requires ready { AreLongReady Q bands.old rows.now.image y x count }
-    requires first { IsFirstLater y x first }
+    requires ready { AreLongReady Q bands.old rows.now.image places.y places.x places.count }
+    requires first { IsFirstLater places.y places.x places.first }
     requires from { from + 4 ≤ 8 }
     requires predicted { (k : ℕ) (b : PredictorState) → slice_get bands.old k ≡ Some b
-        → IsLongPredicted Q k b rows.now.image y x first count (slice_index_or lines.now (from + k) no_long_lines).sums room.now.weights room.now.parts }
-    ensures { AllZip (HoldsPiece rows.now.image count) bands.old bands.new }
+        → IsLongPredicted Q k b rows.now.image places.y places.x places.first places.count (slice_index_or lines.now (from + k) no_long_lines).sums room.now.weights room.now.parts }
+    ensures { AllZip (HoldsPiece rows.now.image places.count) bands.old bands.new }
 {
     for k in 0..bands.len() {
-        finish_lane::<Q>(bands, k, rows, y, x, first, count, &lines[from + k], room);
+        finish_lane::<Q>(bands, k, rows, places, &lines[from + k], room);
     }
 }
 
@@ -134,33 +121,27 @@ fn finish_lane<const Q: usize>(
     bands: &mut [Band],
     k: usize,
     rows: &Rows,
-    y: u32,
-    x: u32,
-    first: usize,
-    count: usize,
+    places: Places,
     lines: &LongLines,
     room: &FourRoom,
 )
-    requires row { rows.now.y ≡ y }
+    requires row { rows.now.y ≡ places.y }
     requires pairs { Q ≤ 9 }
     requires lane { k < 4 }
     requires band { k < length bands.old }
-    requires next { IsPieceNext (slice_index_or bands.old k no_band) rows.now.image y x count }
-    requires some { 1 ≤ count }
-    requires first { IsFirstLater y x first }
+    requires next { IsPieceNext (slice_index_or bands.old k no_band) rows.now.image places.y places.x places.count }
+    requires some { 1 ≤ places.count }
+    requires first { IsFirstLater places.y places.x places.first }
     requires enough { length (slice_index_or bands.old k no_band).weights ≤ 2 * Q }
-    requires predicted { IsLongPredicted Q k (slice_index_or bands.old k no_band) rows.now.image y x first count lines.now.sums room.now.weights room.now.parts }
-    ensures held { HoldsPiece rows.now.image count (slice_index_or bands.old k no_band) (slice_index_or bands.new k no_band) }
+    requires predicted { IsLongPredicted Q k (slice_index_or bands.old k no_band) rows.now.image places.y places.x places.first places.count lines.now.sums room.now.weights room.now.parts }
+    ensures held { HoldsPiece rows.now.image places.count (slice_index_or bands.old k no_band) (slice_index_or bands.new k no_band) }
     ensures others { bands.new ≡ slice_set bands.old k (slice_index_or bands.new k no_band) }
 {
     let band = &mut bands[k];
     finish_band::<Q>(
         band,
         rows,
-        y,
-        x,
-        first,
-        count,
+        places,
         &room.parts[k],
         &lines.sums,
         &room.weights,
@@ -189,11 +170,12 @@ fn predict_four<const Q: usize>(
     ensures { AllZip (HoldsPiece rows.now.image count) bands.old bands.new }
 {
     let first = first_later(y, x);
-    predict_lanes::<Q>(bands, rows, y, x, first, count, lines, from, room);
-    finish_lanes::<Q>(bands, rows, y, x, first, count, lines, from, room);
+    let places = Places { y, x, first, count };
+    predict_lanes::<Q>(bands, rows, places, lines, from, room);
+    finish_lanes::<Q>(bands, rows, places, lines, from, room);
 }
 
-/// Advances four to eight bands by a piece side by side. `Q` pairs hold the components of each band.
+/// Advances one to eight bands by a piece side by side. `Q` pairs hold the components of each band.
 pub(crate) fn predict_side_by_side<const Q: usize>(
     bands: &mut [Band],
     rows: &Rows,
@@ -204,12 +186,13 @@ pub(crate) fn predict_side_by_side<const Q: usize>(
 )
     requires row { rows.now.y ≡ y }
     requires pairs { Q ≤ 9 }
-    requires few { (4 ≤ length bands.old) × (length bands.old ≤ 8) }
+    requires few { (1 ≤ length bands.old) × (length bands.old ≤ 8) }
     requires ready { AreLongReady Q bands.old rows.now.image y x count }
     ensures { AllZip (HoldsPiece rows.now.image count) bands.old bands.new }
 {
     fill_lanes(bands, rows, y, x, count, 2 * Q, &mut room.lines);
-    let (low, high) = bands.split_at_mut(4);
+    let few = bands.len().min(4);
+    let (low, high) = bands.split_at_mut(few);
     predict_four::<Q>(low, rows, y, x, count, &room.lines, 0, &mut room.four);
     predict_high::<Q>(high, rows, y, x, count, &room.lines, &mut room.four);
 }

@@ -11,50 +11,47 @@ ghost use Rattle.group_prediction.specs.GroupLanes.{IsLongLane};
 ghost use Rattle.predict_core.specs.RunChains.{AreStepsThere, IsFollowed};
 
 use crate::long::chain::follow_places;
+use crate::places::Places;
 use band_lanes::four::rows::Rows;
 use band_lanes::four::step::LongStep;
 use predict_core::settings::Settings;
 use sample_prediction::exponent::{exponent_at, places_alike};
 use sample_prediction::predictor::MOST_COMPONENTS;
 
-/// Writes the predicted central differences of the places `first..last` of a piece, and updates the weights.
+/// Writes the predicted central differences of the places of a piece that aren't the first of their band, and updates the weights.
 ///
-/// The place `first` is not the first of its band. `settings` are those of one of the bands, which have the same parameters
-/// (CCSDS 123.0-B-1, "Weight Update").
+/// `settings` are those of one of the bands, which have the same parameters (CCSDS 123.0-B-1, "Weight Update").
 pub(crate) fn follow_piece<const Q: usize>(
     settings: &Settings,
-    y: u32,
-    x: u32,
-    first: usize,
-    last: usize,
+    places: Places,
     rows: &[Rows; MOST_COMPONENTS],
     own: &[[i32; 4]; 64],
     weights: &mut [[i32; 4]; MOST_COMPONENTS],
     parts: &mut [[i32; 4]; 64],
 )
     requires few { Q ≤ 9 }
-    requires order { first ≤ last }
-    requires last { last ≤ 64 }
-    requires row { y < 65536 }
-    requires inside { x + last ≤ settings.now.columns }
-    requires later { 0 < y + (x + first) }
-    requires small { (i b : ℕ) → first ≤ i → i < last → b < 4 → AllWithin (2 ^ (settings.now.range.bits + 2)) (row_components (2 * Q) b rows.now i) }
+    requires order { places.first ≤ places.count }
+    requires last { places.count ≤ 64 }
+    requires row { places.y < 65536 }
+    requires inside { places.x + places.count ≤ settings.now.columns }
+    requires later { 0 < places.y + (places.x + places.first) }
+    requires small { (i b : ℕ) → places.first ≤ i → i < places.count → b < 4 → AllWithin (2 ^ (settings.now.range.bits + 2)) (row_components (2 * Q) b rows.now i) }
     requires weights_in { (b : ℕ) → b < 4 → AllWithin (2 ^ (settings.now.predictor.omega + 2)) (column_of (2 * Q) b weights.old) }
     ensures weights_in { (b : ℕ) → b < 4 → AllWithin (2 ^ (settings.now.predictor.omega + 2)) (column_of (2 * Q) b weights.new) }
-    ensures small { (i b : ℕ) → first ≤ i → i < last → b < 4 → unsigned_abs (place parts.new i b) ≤ 18 * 2 ^ 20 }
-    ensures followed { (b : ℕ) (s : Constants) (c : Image) → b < 4 → IsLongLane Q b s c y x last own.now rows.now → s.predictor ≡ settings.now.predictor
+    ensures small { (i b : ℕ) → places.first ≤ i → i < places.count → b < 4 → unsigned_abs (place parts.new i b) ≤ 18 * 2 ^ 20 }
+    ensures followed { (b : ℕ) (s : Constants) (c : Image) → b < 4 → IsLongLane Q b s c places.y places.x places.count own.now rows.now → s.predictor ≡ settings.now.predictor
         → s.range.kind ≡ settings.now.range.kind → s.columns ≡ settings.now.columns
-        → IsFollowed s c y x first (column_of (2 * Q) b weights.old) first (column_of (2 * Q) b weights.old) (numbers_of b parts.old)
-        → IsFollowed s c y x first (column_of (2 * Q) b weights.old) last (column_of (2 * Q) b weights.new) (numbers_of b parts.new) }
+        → IsFollowed s c places.y places.x places.first (column_of (2 * Q) b weights.old) places.first (column_of (2 * Q) b weights.old) (numbers_of b parts.old)
+        → IsFollowed s c places.y places.x places.first (column_of (2 * Q) b weights.old) places.count (column_of (2 * Q) b weights.new) (numbers_of b parts.new) }
 {
     let predictor = &settings.predictor;
     let columns = settings.columns;
     let bits = settings.range.bits;
-    let start = y as u64 * columns as u64 + x as u64;
-    let mut at = first;
-    while at < last {
+    let start = places.y as u64 * columns as u64 + places.x as u64;
+    let mut at = places.first;
+    while at < places.count {
         let t = start + at as u64;
-        let next = at + places_alike(predictor, columns, t, last - at);
+        let next = at + places_alike(predictor, columns, t, places.count - at);
         let step = LongStep::new(
             predictor.omega,
             bits,

@@ -9,7 +9,7 @@ pub loop-k-preserved : goal.loop-k-preserved
 loop-k-preserved g c =
     let long = c.loop-k.auto.bands in let inside = c.loop-k-test.true in
     rw c.finish_lane.ensures.others
-    (held_step c.args.rows.now.image c.args.count c.loop-k.k c.args.bands.now c.loop-k.bands no_band _ (omega (arith, long, inside)) c.loop-k.invariant
+    (held_step c.args.rows.now.image c.args.places.count c.loop-k.k c.args.bands.now c.loop-k.bands no_band _ (omega (arith, long, inside)) c.loop-k.invariant
     c.finish_lane.ensures.held)
 
 pub finish_lane-requires : goal.finish_lane-requires
@@ -35,4 +35,4 @@ finish_lane-requires g c =
 pub returns : goal.returns
 returns g c =
     let long = c.loop-k.auto.bands in let done = c.loop-k-test.false in
-    all_held c.args.rows.now.image c.args.count c.loop-k.k c.args.bands.now c.loop-k.bands c.loop-k.invariant long done
+    all_held c.args.rows.now.image c.args.places.count c.loop-k.k c.args.bands.now c.loop-k.bands c.loop-k.invariant long done

@@ -22,29 +22,29 @@ module _ (g : given.Over) (c : After-fill_own_rows g) (none : PredictorState) (b
   there_is = let some = c.requires.few.0 in
       slice_get-get_or c.args.bands.now (min b (length c.args.bands.now - 1)) none (omega (arith, some))
 
-  told : (there.predictor ≡ c.requires.ready.predictor) × IsPieceNext there c.args.rows.now.image c.args.y c.args.x c.args.count
+  told : (there.predictor ≡ c.requires.ready.predictor) × IsPieceNext there c.args.rows.now.image c.args.places.y c.args.places.x c.args.places.count
   told = ready_at _ _ _ _ _ _ c.requires.ready (min b (length c.args.bands.now - 1)) there there_is
 
-  component : (i k : ℕ) → i < c.args.count → 0 < c.args.y + (c.args.x + i) → k < 2 * g.row.Q
+  component : (i k : ℕ) → i < c.args.places.count → 0 < c.args.places.y + (c.args.places.x + i) → k < 2 * g.row.Q
       → place (get_or c.fill_lanes.new.out b no_lines).components k i
-      ≡ get_or (difference_vector there.predictor c.args.rows.now.image there.band c.args.y (c.args.x + i)) k (pos 0)
+      ≡ get_or (difference_vector there.predictor c.args.rows.now.image there.band c.args.places.y (c.args.places.x + i)) k (pos 0)
   component i k l m n = (c.fill_lanes.ensures b there fits there_is).components i k l m n
 
-  small : (i k : ℕ) → i < c.args.count → 0 < c.args.y + (c.args.x + i) → k < 2 * g.row.Q
+  small : (i k : ℕ) → i < c.args.places.count → 0 < c.args.places.y + (c.args.places.x + i) → k < 2 * g.row.Q
       → unsigned_abs (place (get_or c.fill_lanes.new.out b no_lines).components k i) < 2 ^ (c.args.rows.now.image.kind.bits + 2)
   small i k l m n =
       let inside = told.1.inside in
       rw (component i k l m n)
-      (component_below there.predictor c.args.rows.now.image c.prove_is_row.ensures.cube there.band c.args.y (c.args.x + i) k m
+      (component_below there.predictor c.args.rows.now.image c.prove_is_row.ensures.cube there.band c.args.places.y (c.args.places.x + i) k m
       (rw told.0 c.requires.ready.wide) (record { band = told.1.place.band; row = told.1.place.row; column = omega (arith, inside, l) }))
 
 -- all lanes
 module _ (g : given.Over) (c : After-fill_own_rows g) (none : PredictorState) where
-  within : (i : ℕ) → i < c.args.count → i < 64
+  within : (i : ℕ) → i < c.args.places.count → i < 64
   within i l =
       let few = (told g c none 0 (omega arith)).1.few in omega (arith, l, few)
 
-  below : (i : ℕ) → c.args.first ≤ i → i < c.args.count → AreBelow (2 ^ (c.args.rows.now.image.kind.bits + 2)) g.row.Q c.fill_pairs.new.pairs i
+  below : (i : ℕ) → c.args.places.first ≤ i → i < c.args.places.count → AreBelow (2 ^ (c.args.rows.now.image.kind.bits + 2)) g.row.Q c.fill_pairs.new.pairs i
   below i l m =
       let later = c.requires.first.later in
       all_below (2 ^ (c.args.rows.now.image.kind.bits + 2)) g.row.Q i c.fill_pairs.new.pairs
@@ -61,7 +61,7 @@ pub fill_lanes-requires : goal.fill_lanes-requires
 fill_lanes-requires g c =
     let ready = ready_at _ _ _ _ _ _ c.requires.ready in let few = c.requires.pairs in record {
       row = c.requires.row;
-      some_bands = c.requires.few.0;
+      some_bands = c.requires.few;
       next = λ i b e. (ready i b e).1;
       alike = λ i j a b e f. (ready j b f).0 ∙ sym (ready i a e).0;
       bits = c.requires.ready.narrow.bits_in;
@@ -112,14 +112,14 @@ returns g c h k b e =
       begun = weights_of g.row.Q k c.fill_weights.new.rows;
       begun_is = weights.used (rw (weights.long, told.0) (c.requires.ready.enough b.band));
       followed = λ s is.
-          followed_alike s c.args.rows.now.image c.args.y c.args.x c.args.first c.args.count (weights_of g.row.Q k c.fill_weights.new.rows)
+          followed_alike s c.args.rows.now.image c.args.places.y c.args.places.x c.args.places.first c.args.places.count (weights_of g.row.Q k c.fill_weights.new.rows)
           (weights_of g.row.Q k c.follow_band.new.weights) (numbers_of k c.follow_band.new.parts) (get_or c.turn_back.new.lines k [])
           (λ i l. c.turn_back.ensures i k (omega (arith, count, l)) fits ∙ sym (number_at k i c.follow_band.new.parts))
           (c.follow_band.ensures.followed k s c.args.rows.now.image fits
-          (lane_filled g.row.Q k s b c.args.rows.now.image c.args.y c.args.x c.args.count c.fill_own_rows.new.rows c.fill_pairs.new.pairs
+          (lane_filled g.row.Q k s b c.args.rows.now.image c.args.places.y c.args.places.x c.args.places.count c.fill_own_rows.new.rows c.fill_pairs.new.pairs
           (get_or c.fill_lanes.new.out k no_lines) fits c.prove_is_row.ensures.cube few is told.1 (rw told.0 c.requires.ready.narrow)
           (rw told.0 (c.requires.ready.enough b.band)) (omega (arith, long)) lines (λ i l. c.fill_own_rows.ensures i k l fits)
           (λ j i l m. c.fill_pairs.ensures.even j i k l m fits) (λ j i l m. c.fill_pairs.ensures.odd j i k l m fits))
           (is.predictor ∙ same) (is.kind ∙ sym told.1.kind ∙ zero.1.kind) (is.columns ∙ ap (λ w. w.columns) zero.1.shape)
-          (followed_none s c.args.rows.now.image c.args.y c.args.x c.args.first (weights_of g.row.Q k c.fill_weights.new.rows) _));
+          (followed_none s c.args.rows.now.image c.args.places.y c.args.places.x c.args.places.first (weights_of g.row.Q k c.fill_weights.new.rows) _));
     }

@@ -27,21 +27,21 @@ loop-at-preserved g c =
       followed = λ b t d l there predictor kind columns h.
           let wide = there.columns ∙ columns in
           let steps : (i : ℕ) → c.loop-at.at ≤ i → i < c.loop-at.at + c.places_alike.result
-          → AreStepsThere t d c.new-step.result.omega c.new-step.result.bits c.new-step.result.exponent c.args.y (c.args.x + i)
+          → AreStepsThere t d c.new-step.result.omega c.new-step.result.bits c.new-step.result.exponent c.args.places.y (c.args.places.x + i)
           = λ i m n. record {
             omega_is = step.omega ∙ sym (ap (λ p. p.omega) predictor);
             bits_are = step.bits ∙ s.range.bits_is ∙ sym (ap (λ k. k.bits) kind) ∙ sym t.range.bits_is;
             exponent_is = (
-                let place : c.args.y * s.columns + c.args.x + c.loop-at.at + (i - c.loop-at.at) ≡ c.args.y * d.shape.columns + (c.args.x + i) =
+                let place : c.args.places.y * s.columns + c.args.places.x + c.loop-at.at + (i - c.loop-at.at) ≡ c.args.places.y * d.shape.columns + (c.args.places.x + i) =
                 rw wide (omega (arith, m)) in
                 rw predictor (step.exponent ∙ rw (to_z-of_z fits)
-                (piece_exponent s.predictor _ s.columns s.range.bits (c.args.y * s.columns + c.args.x + c.loop-at.at) _ _
-                (c.args.y * d.shape.columns + (c.args.x + i)) (i - c.loop-at.at)
+                (piece_exponent s.predictor _ s.columns s.range.bits (c.args.places.y * s.columns + c.args.places.x + c.loop-at.at) _ _
+                (c.args.places.y * d.shape.columns + (c.args.places.x + i)) (i - c.loop-at.at)
                 c.exponent_at.ensures.value (c.places_alike.ensures.alike s.range.bits (i - c.loop-at.at) (omega (arith, m, n))) wide
                 (ap (λ k. k.bits) (there.kind ∙ kind) ∙ sym s.range.bits_is) place)));
           } in
-          let later : 0 < c.args.y + (c.args.x + c.loop-at.at) = (let e = c.requires.later in let f = kept.begun in omega (arith, e, f)) in
-          c.follow_by.ensures.followed b t d c.args.y c.args.x c.args.first (weights_of g.row.Q b c.args.weights.now) l
-          (lane_first g.row.Q b t d c.args.y c.args.x c.args.last _ c.args.own.now c.args.pairs.now (let e = c.loop-at-test.true in omega (arith, few, e)) there)
+          let later : 0 < c.args.places.y + (c.args.places.x + c.loop-at.at) = (let e = c.requires.later in let f = kept.begun in omega (arith, e, f)) in
+          c.follow_by.ensures.followed b t d c.args.places.y c.args.places.x c.args.places.first (weights_of g.row.Q b c.args.weights.now) l
+          (lane_first g.row.Q b t d c.args.places.y c.args.places.x c.args.places.count _ c.args.own.now c.args.pairs.now (let e = c.loop-at-test.true in omega (arith, few, e)) there)
           later steps (kept.followed b t d l there predictor kind columns h);
     }

@@ -9,9 +9,8 @@ pub follow_places-requires : goal.follow_places-requires
 follow_places-requires g c =
     let kept = c.loop-at.invariant in let few = c.places_alike.ensures.few in
     let run = first_of_run _ _ _ _ _ _ _ _ _ _ _ _ (omega (arith, few)) c.requires.run in
-    let other = first_of_run _ _ _ _ _ _ _ _ _ _ _ _ (omega (arith, few)) c.requires.other in
     let later : 0 < c.args.y + (c.args.x + c.loop-at.at) = omega (arith, c.requires.later, kept.begun) in
-    (omega arith, (omega arith, (run, (other, (omega arith, (later, (steps, (c.requires.same, (kept.bound, kept.other_bound)))))))))
+    (omega arith, (run, (omega arith, (later, (steps, kept.bound)))))
   where
     exponent : (i : ℕ) → c.loop-at.at ≤ i → i < c.loop-at.at + c.places_alike.result
         → to_z w32 (of_z w32 c.exponent_at.result) ≡ step_exponent c.args.run.settings.now.predictor c.args.rows.now.image.shape.columns c.args.rows.now.image.kind.bits
@@ -36,21 +35,12 @@ loop-at-preserved g c =
       begun = omega (arith, kept.begun);
       within = omega (arith, c.places_alike.ensures.few);
       followed = next.followed _ _ kept.followed;
-      other = λ h. next.other_followed h _ _ (kept.other h);
       bound = next.bound;
-      other_bound = next.other_bound;
     }
 
 pub returns-clause-followed : goal.returns-clause-followed
 returns-clause-followed g c =
     let done : c.loop-at.at ≡ c.args.last = omega (arith, c.loop-at.invariant.within, c.loop-at-test.false) in rw (← done) c.loop-at.invariant.followed
 
-pub returns-clause-other_followed : goal.returns-clause-other_followed
-returns-clause-other_followed g c h =
-    let done : c.loop-at.at ≡ c.args.last = omega (arith, c.loop-at.invariant.within, c.loop-at-test.false) in rw (← done) (c.loop-at.invariant.other h)
-
 pub returns-clause-bound : goal.returns-clause-bound
 returns-clause-bound g c = c.loop-at.invariant.bound
-
-pub returns-clause-other_bound : goal.returns-clause-other_bound
-returns-clause-other_bound g c = c.loop-at.invariant.other_bound

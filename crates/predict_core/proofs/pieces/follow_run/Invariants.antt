@@ -1,4 +1,4 @@
-use Rattle.std.proofs.Common.{◌≡◌, nat_eq, not, ◌+◌, ◌-◌, ◌^◌, ◌≤◌, true}
+use Rattle.std.proofs.Common.{◌+◌, ◌-◌, ◌^◌, ◌≤◌}
 use Rattle.sample_prediction.specs.Bounds.{AllWithin}
 use Rattle.predict_core.specs.RunChains.{IsFollowed}
 use Rattle.predict_core.proofs.pieces.follow_run.Given as goal
@@ -8,10 +8,7 @@ invariant-loop-at g l = record {
   begun : l.first ≤ l.at;
   within : l.at ≤ l.last;
   followed : IsFollowed l.run.settings.now l.rows.image l.y l.x l.first l.initial.state.weights l.at l.state.weights l.state.parts;
-  other : not (nat_eq g.row.PAIR 0) ≡ true
-      → IsFollowed l.other.settings.now l.rows.image l.y l.x l.first l.initial.beside.weights l.at l.beside.weights l.beside.parts;
   bound : AllWithin (2 ^ (l.run.settings.now.predictor.omega + 2)) l.state.weights;
-  other_bound : AllWithin (2 ^ (l.run.settings.now.predictor.omega + 2)) l.beside.weights;
 }
 
 abbrev pub decreases-loop-at : goal.decreases-loop-at

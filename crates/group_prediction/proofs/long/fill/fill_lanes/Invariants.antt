@@ -1,11 +1,11 @@
-use Rattle.std.proofs.Common.{◌≡◌, ◌-◌, ◌<◌, ℕ, min, length, slice_get, slice_index_or, Some}
+use Rattle.std.proofs.Common.{◌≡◌, ◌<◌, ℕ, length, slice_get, slice_index_or, Some}
 use Rattle.predict_core.specs.Following.{PredictorState}
 use Rattle.group_prediction.specs.GroupLines.{AreLongLines, no_long_lines}
 use Rattle.group_prediction.proofs.long.fill.fill_lanes.Given as goal
 
 abbrev pub invariant-loop-i : goal.invariant-loop-i
 invariant-loop-i l = record {
-  done : (j : ℕ) (b : PredictorState) → j < l.i → slice_get l.bands (min j (length l.bands - 1)) ≡ Some b
+  done : (j : ℕ) (b : PredictorState) → j < l.i → slice_get l.bands j ≡ Some b
       → AreLongLines l.n b.predictor b.band l.rows.image l.y l.x l.count (slice_index_or l.out j no_long_lines);
   long : length l.out ≡ 8;
 }

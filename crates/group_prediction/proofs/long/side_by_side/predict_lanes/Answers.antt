@@ -22,13 +22,13 @@ module _ (g : given.Over) (c : After-fill_own g) (none : PredictorState) (b : �
   there_is = let some = c.requires.few.0 in
       slice_get-get_or c.args.bands.now (min b (length c.args.bands.now - 1)) none (omega (arith, some))
 
-  told : (there.predictor ≡ c.requires.ready.predictor) × IsPieceNext there c.args.rows.now.image c.args.y c.args.x c.args.count
+  told : (there.predictor ≡ c.requires.ready.predictor) × IsPieceNext there c.args.rows.now.image c.args.places.y c.args.places.x c.args.places.count
   told = long_ready_at _ _ _ _ _ _ c.requires.ready (min b (length c.args.bands.now - 1)) there there_is
 
-  small : (i : ℕ) → c.args.first ≤ i → i < c.args.count → AllWithin (2 ^ (c.args.rows.now.image.kind.bits + 2)) (row_components (2 * g.row.Q) b c.fill_rows.new.rows i)
+  small : (i : ℕ) → c.args.places.first ≤ i → i < c.args.places.count → AllWithin (2 ^ (c.args.rows.now.image.kind.bits + 2)) (row_components (2 * g.row.Q) b c.fill_rows.new.rows i)
   small i l m =
       let later = c.requires.first.later in let few = c.requires.pairs in let next = told.1.few in let long = c.fill_rows.ensures.long in
-      filled_components_in g.row.Q b there c.args.rows.now.image c.args.y c.args.x c.args.count i c.fill_rows.new.rows (get_or c.args.lines.now (c.args.from + b) no_long_lines)
+      filled_components_in g.row.Q b there c.args.rows.now.image c.args.places.y c.args.places.x c.args.places.count i c.fill_rows.new.rows (get_or c.args.lines.now (c.args.from + b) no_long_lines)
       c.prove_is_row.ensures.cube few told.1 (rw told.0 c.requires.ready.wide) (rw told.0 (c.requires.ready.enough there.band)) (omega (arith, long))
       (c.requires.lines b there fits there_is) m (omega (arith, later, l)) (λ k n. c.fill_rows.ensures.rows k i b n (omega (arith, m, next)) fits)
 
@@ -72,14 +72,14 @@ returns g c k b e =
       begun = column_of (2 * g.row.Q) k c.fill_weights.new.rows;
       begun_is = weights.used (rw (weights.long, told.0) (c.requires.ready.enough b.band));
       followed = λ s is.
-          followed_alike s c.args.rows.now.image c.args.y c.args.x c.args.first c.args.count (column_of (2 * g.row.Q) k c.fill_weights.new.rows)
+          followed_alike s c.args.rows.now.image c.args.places.y c.args.places.x c.args.places.first c.args.places.count (column_of (2 * g.row.Q) k c.fill_weights.new.rows)
           (column_of (2 * g.row.Q) k c.follow_band.new.weights) (numbers_of k c.follow_band.new.parts) (get_or c.turn_four_back.new.lines k [])
           (λ i l. turned i k (omega (arith, count, l)) fits ∙ sym (number_at k i c.follow_band.new.parts))
           (c.follow_band.ensures.followed k s c.args.rows.now.image fits
-          (long_lane_filled g.row.Q k s b c.args.rows.now.image c.args.y c.args.x c.args.count c.fill_own.new.own c.fill_rows.new.rows
+          (long_lane_filled g.row.Q k s b c.args.rows.now.image c.args.places.y c.args.places.x c.args.places.count c.fill_own.new.own c.fill_rows.new.rows
           (get_or c.args.lines.now (c.args.from + k) no_long_lines) c.prove_is_row.ensures.cube few is told.1 (rw told.0 c.requires.ready.register)
           (rw told.0 (c.requires.ready.enough b.band)) c.fill_rows.ensures.long lines (λ i l. c.fill_own.ensures i k l fits)
           (λ j i l m. c.fill_rows.ensures.rows j i k l m fits))
           (is.predictor ∙ same) (is.kind ∙ sym told.1.kind ∙ zero.1.kind) (is.columns ∙ ap (λ w. w.columns) zero.1.shape)
-          (followed_none s c.args.rows.now.image c.args.y c.args.x c.args.first (column_of (2 * g.row.Q) k c.fill_weights.new.rows) _));
+          (followed_none s c.args.rows.now.image c.args.places.y c.args.places.x c.args.places.first (column_of (2 * g.row.Q) k c.fill_weights.new.rows) _));
     }

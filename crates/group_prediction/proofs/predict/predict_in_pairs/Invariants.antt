@@ -1,6 +1,0 @@
-use Rattle.std.proofs.Common.{◌*◌}
-use Rattle.group_prediction.proofs.GroupPieces.{HeldUpTo}
-use Rattle.group_prediction.proofs.predict.predict_in_pairs.Given as goal
-
-abbrev pub invariant-loop-k : goal.invariant-loop-k
-invariant-loop-k l = HeldUpTo l.rows.image l.count (2 * l.k) l.initial.bands l.bands
