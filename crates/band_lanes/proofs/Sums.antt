@@ -26,6 +26,18 @@ pair_in a b k f l h =
     let p = product_in (lane a (2 * k)) (lane b (2 * k)) (f (2 * k)) (h (2 * k) (omega arith)) in
     let q = product_in (lane a (2 * k + 1)) (lane b (2 * k + 1)) (f (2 * k + 1)) (h (2 * k + 1) (omega arith)) in omega (arith, ints, p, q)
 
+full_product_in : (w u : ℤ) → SFits w16 w → unsigned_abs u < 2 ^ 15 → unsigned_abs (w *ℤ u) ≤ 2 ^ 15 * (2 ^ 15 - 1)
+full_product_in w u f h =
+    let l : unsigned_abs w ≤ 2 ^ 15 = (let p = f.sfits in omega (arith, ints, p)) in
+    rw (unsigned_abs-mul w u) (mul-le (unsigned_abs w) (unsigned_abs u) (2 ^ 15) (2 ^ 15 - 1) l (omega (arith, h)))
+
+-- two products of numbers of 16 bits still fit into 32
+pub full_pair_in : (a b : List ℤ) (k : ℕ) → ((i : ℕ) → SFits w16 (lane a i)) → k < 8 → ((i : ℕ) → i < 16 → unsigned_abs (lane b i) < 2 ^ 15)
+    → unsigned_abs (pair_sum a b k) < 2 ^ 31
+full_pair_in a b k f l h =
+    let p = full_product_in (lane a (2 * k)) (lane b (2 * k)) (f (2 * k)) (h (2 * k) (omega arith)) in
+    let q = full_product_in (lane a (2 * k + 1)) (lane b (2 * k + 1)) (f (2 * k + 1)) (h (2 * k + 1) (omega arith)) in omega (arith, ints, p, q)
+
 -- a number's multiples of a divisor and what is left
 rest_is : (a : ℤ) (n : ℕ) → 0 < n → (pos n *ℤ floor_div a n +ℤ int_rem_euclid a (pos n) ≡ a) × (int_rem_euclid a (pos n) ≤ℤ pos n)
     × (pos 0 ≤ℤ int_rem_euclid a (pos n))
@@ -38,7 +50,7 @@ apart : (n : ℕ) (high part low rest sum number : ℤ) → pos n *ℤ high +ℤ
 apart n high part low rest sum number e f = let t = times_sum n high part in omega (arith, ints, e, f, t)
 
 -- a sum of one number more
-pub one_more : (omega n : ℕ) (sum high low number : ℤ) → 4 ≤ omega → omega ≤ 13 → n < 8 → unsigned_abs number ≤ 2 ^ 31 → IsSplit omega n sum high low
+pub one_more : (omega n : ℕ) (sum high low number : ℤ) → 4 ≤ omega → omega ≤ 13 → n < 12 → unsigned_abs number ≤ 2 ^ 31 → IsSplit omega n sum high low
     → IsSplit omega (n + 1) (sum +ℤ number) (high +ℤ halved number omega) (low +ℤ int_rem_euclid number (pos (2 ^ omega)))
 one_more fraction n sum high low number least most few small h =
     let r = rest_is number (2 ^ fraction) (pow_pos fraction) in let top : 2 ^ fraction ≤ 2 ^ 13 = pow_mono most in

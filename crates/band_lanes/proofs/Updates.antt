@@ -4,10 +4,11 @@ use Rattle.std.proofs.Common.{arith, refl, sym, ap, ap₂, ◌∙◌, pow_mono, 
 use Rattle.std.proofs.Math.Pow.{pow-add}
 use Rattle.std.specs.Int.{int_min, int_max}
 use Rattle.std.proofs.lemmas.Int.{ints, clamps, unsigned_abs-mul}
-use Rattle.std.proofs.lemmas.Nat.{mul-le, pow_pos}
+use Rattle.std.proofs.lemmas.Nat.{mul-le, pow_pos, div_below}
 use Rattle.lanes.specs.Lanes.{halved, held}
 use Rattle.sample_prediction.specs.Arithmetic.{floor_div, clip}
 use Rattle.sample_prediction.specs.Weights.{step, signed_by, weight_min, weight_max, updated_weight}
+use Rattle.sample_prediction.proofs.Floors.{floor_of_sum, half_of_floor}
 use Rattle.band_lanes.proofs.Floors.{halved_is, opposite}
 
 pub not_le : (a b : ℤ) → int_lt b a ≡ true → int_le a b ≡ false
@@ -46,6 +47,18 @@ negated f h k = omega (arith, ints, h, k)
 pub less_one : (f : ℤ) → pos 0 ≤ℤ f → f ≤ℤ pos 8192 → to_z w16 (of_z w16 (to_z w16 (of_z w16 f) -ℤ pos 1)) ≡ f -ℤ pos 1
 less_one f h k = omega (arith, ints, h, k)
 
+-- half of a quotient and 1, rounded down
+rounded_twice : (z : ℤ) (r : ℕ) → floor_div (floor_div z (2 ^ r) +ℤ pos 1) 2 ≡ floor_div (z +ℤ pos (2 ^ r) *ℤ pos 1) (2 ^ (r + 1))
+rounded_twice z r = ap (λ a. floor_div a 2) (sym (floor_of_sum z (pos 1) (2 ^ r) (pow_pos r))) ∙ half_of_floor (z +ℤ pos (2 ^ r) *ℤ pos 1) r
+
+moved_by : (v : ℤ) (n : ℕ) → (v -ℤ pos 1) +ℤ pos n *ℤ pos 1 ≡ v +ℤ (pos n -ℤ pos 1)
+moved_by v n = omega (arith, ints)
+
+-- a quotient is at most a number that isn't negative
+floor_most : (a : ℤ) (n : ℕ) → 0 < n → a ≤ℤ pos 32766 → floor_div a n ≤ℤ pos 32766
+floor_most (pos a) n some h = let l = div_below a n 32767 some (omega (arith, ints, h)) in omega (arith, ints, l)
+floor_most (negsuc a) n some h = omega (arith, ints)
+
 module _ (u own predicted : ℤ) where
   -- without a sign, and with one
   pub lowered_is : (half mask rounding flipped sum result : ℤ) (r by : ℕ) → r ≤ 13 → unsigned_abs u < 2 ^ 14 → half ≡ pos (2 ^ r) → by ≡ r + 1
@@ -73,6 +86,36 @@ module _ (u own predicted : ℤ) where
           let s = added (omega (arith, ints, f, g, is, top, some, small)) in
           let v : sum ≡ neg_ℤ (neg_ℤ u) +ℤ (pos (2 ^ r) -ℤ pos 1) = omega (arith, ints, s, f, g, is) in
           h ∙ halved_is sum by ∙ ap₂ (λ a n. floor_div a (2 ^ n)) v by_is ∙ nearest (neg_ℤ u) r
+          ∙ ap (λ t. neg_ℤ (step (pos r) (signed_by t u))) (sym (is_le own predicted e))
+
+  -- rounded down first, and then to the nearest
+  pub deep_lowered_is : (mask less flipped sum whole result : ℤ) (r by : ℕ) → r ≤ 13 → unsigned_abs u < 2 ^ 15 → by ≡ r
+      → mask ≡ (if int_lt predicted own then negsuc 0 else pos 0) → less ≡ (if int_lt predicted own then pos 0 else pos 1)
+      → (mask ≡ pos 0 → flipped ≡ u) → (mask ≡ negsuc 0 → flipped ≡ negsuc 0 -ℤ u)
+      → sum ≡ held (flipped -ℤ less) → whole ≡ halved sum by
+      → (whole ≤ℤ pos 32766 → result ≡ halved (whole +ℤ pos 1) 1)
+      → result ≡ neg_ℤ (step (pos r) (signed_by (int_le own predicted) u))
+  deep_lowered_is mask less flipped sum whole result r by few small by_is m o kept turned taken w h = go (int_lt predicted own) refl
+    where
+      -- what is left once the signs are known
+      done : (v : ℤ) (s : Bool) → sum ≡ v -ℤ pos 1 → v ≡ neg_ℤ (signed_by s u) → (v -ℤ pos 1) ≤ℤ pos 32766
+          → result ≡ neg_ℤ (step (pos r) (signed_by s u))
+      done v s e f top =
+          let some = pow_pos r in
+          let q : whole ≡ floor_div (v -ℤ pos 1) (2 ^ r) = w ∙ halved_is sum by ∙ ap₂ (λ a n. floor_div a (2 ^ n)) e by_is in
+          let limit : whole ≤ℤ pos 32766 = rw q (floor_most (v -ℤ pos 1) (2 ^ r) some top) in
+          h limit ∙ halved_is (whole +ℤ pos 1) 1 ∙ ap (λ a. floor_div (a +ℤ pos 1) 2) q ∙ rounded_twice (v -ℤ pos 1) r
+          ∙ ap (λ a. floor_div a (2 ^ (r + 1))) (moved_by v (2 ^ r)) ∙ ap (λ a. floor_div (a +ℤ (pos (2 ^ r) -ℤ pos 1)) (2 ^ (r + 1))) f
+          ∙ nearest (signed_by s u) r
+
+      go : (t : Bool) → int_lt predicted own ≡ t → result ≡ neg_ℤ (step (pos r) (signed_by (int_le own predicted) u))
+      go true e =
+          let f = turned (m ∙ ap (λ t. if t then negsuc 0 else pos 0) e) in let g = o ∙ ap (λ t. if t then pos 0 else pos 1) e in
+          done (neg_ℤ u) false (omega (arith, ints, clamps, taken, f, g, small)) refl (omega (arith, ints, small))
+          ∙ ap (λ t. neg_ℤ (step (pos r) (signed_by t u))) (sym (not_le own predicted e))
+      go false e =
+          let f = kept (m ∙ ap (λ t. if t then negsuc 0 else pos 0) e) in let g = o ∙ ap (λ t. if t then pos 0 else pos 1) e in
+          done u true (omega (arith, ints, clamps, taken, f, g, small)) (omega (arith, ints)) (omega (arith, ints, small))
           ∙ ap (λ t. neg_ℤ (step (pos r) (signed_by t u))) (sym (is_le own predicted e))
 
   pub raised_is : (factor chosen product : ℤ) (k bits : ℕ) → bits + k ≤ 13 → unsigned_abs u < 2 ^ (bits + 2) → factor ≡ pos (2 ^ k)

@@ -38,6 +38,30 @@ pub(crate) fn predicted<const Q: usize>(
     with_whole(high, low, omega)
 }
 
+/// `predicted` if components have 16 bits: two products fit into 32 bits, so that the sum of each pair is split.
+#[inline(always)]
+pub(crate) fn predicted_singly<const Q: usize>(
+    weights: &[[i16; 16]; MOST_PAIRS],
+    pairs: &[Pairs; MOST_PAIRS],
+    i: usize,
+    omega: u32,
+) -> i32x8
+    requires few { Q ≤ 9 }
+    requires place { i < 64 }
+    requires omega_in { (4 ≤ omega) × (omega ≤ 13) }
+    requires small { AreBelow (2 ^ 15) Q pairs.now i }
+    ensures { (b : ℕ) → b < 8 → lane result b ≡ floor_div (inner_product (weights_of Q b weights.now) (components_of Q b pairs.now i)) (2 ^ omega) }
+{
+    let mut high = i32x8::splat(0);
+    let mut low = i32x8::splat(0);
+    for k in 0..Q {
+        let pair = full_products(&weights[k], &pairs[k].places[i]);
+        high = with_whole(high, pair, omega);
+        low = with_rest(low, pair, omega);
+    }
+    with_whole(high, low, omega)
+}
+
 /// Returns the sums of the products of pairs 2k and 2k + 1, or of the first of them alone if it is the last of all.
 #[inline(always)]
 fn group_sum<const Q: usize>(
@@ -72,6 +96,17 @@ fn products(weights: &[i16; 16], components: &[i16; 16]) -> i32x8
     let weights = row_of(weights);
     let components = row_of(components);
     wide::pair_sums(i16x16::from_array(weights), i16x16::from_array(components))
+}
+
+/// `products` of components of 16 bits.
+#[inline(always)]
+fn full_products(weights: &[i16; 16], components: &[i16; 16]) -> i32x8
+    requires { (k : ℕ) → k < 16 → unsigned_abs (lane components.now k) < 2 ^ 15 }
+    ensures { (b : ℕ) → b < 8 → lane result b ≡ pair_sum weights.now components.now b }
+{
+    let factors = row_of(weights);
+    let numbers = row_of(components);
+    wide::pair_sums(i16x16::from_array(factors), i16x16::from_array(numbers))
 }
 
 /// Adds to each number the whole multiples of 2^Ω in another.

@@ -26,7 +26,7 @@ pub struct Step {
     pub ghost most: { exponent ≤ℤ pos 13 },
     pub ghost limit_is: { limit +ℤ pos 1 ≡ pos (2 ^ (omega + 2)) },
     pub ghost half_in: { (pos 1 ≤ℤ half) × (half ≤ℤ pos 8192) },
-    pub ghost by_in: { by ≤ 14 },
+    pub ghost by_in: { (1 ≤ by) × (by ≤ 14) },
     pub ghost factor_in: { (pos 1 ≤ℤ factor) × (factor ≤ℤ pos 8192) },
     pub ghost lowered: { (r : ℕ) → exponent ≡ pos r → (half ≡ pos (2 ^ r)) × (by ≡ r + 1) },
     pub ghost raised: { (k : ℕ) → exponent ≡ negsuc k → factor ≡ pos (2 ^ k) },
@@ -43,9 +43,80 @@ impl Step {
         ensures bits { result.bits ≡ bits }
         ensures exponent { result.exponent ≡ exponent }
     {
+        let deep = DeepStep::new(omega, bits, exponent);
+        Step {
+            omega: deep.omega,
+            bits: deep.bits,
+            exponent: deep.exponent,
+            limit: deep.limit,
+            half: deep.half,
+            by: deep.by,
+            factor: deep.factor,
+        }
+    }
+
+    /// Returns the same for functions that also take samples of 13 bits.
+    #[inline(always)]
+    pub(crate) fn deep(self) -> DeepStep
+        ensures omega { result.omega ≡ self.omega }
+        ensures bits { result.bits ≡ self.bits }
+        ensures exponent { result.exponent ≡ self.exponent }
+    {
+        DeepStep {
+            omega: self.omega,
+            bits: self.bits,
+            exponent: self.exponent,
+            limit: self.limit,
+            half: self.half,
+            by: self.by,
+            factor: self.factor,
+        }
+    }
+}
+
+/// The same parameters for samples of at most 13 bits, with which a component can fill 16 bits.
+#[derive(Clone, Copy)]
+pub struct DeepStep {
+    /// Ω, the weight resolution.
+    pub omega: u32,
+    /// D, the bits of a sample.
+    pub bits: u32,
+    /// ρ.
+    pub exponent: i32,
+    /// The greatest weight.
+    pub(crate) limit: i16,
+    /// If ρ isn't negative, 2^ρ.
+    pub(crate) half: i16,
+    /// If ρ isn't negative, ρ + 1.
+    pub(crate) by: u32,
+    /// If ρ is negative, 2^(-ρ - 1).
+    pub(crate) factor: i16,
+    pub ghost omega_in: { (4 ≤ omega) × (omega ≤ 13) },
+    pub ghost bits_in: { bits ≤ 13 },
+    pub ghost least: { (pos bits -ℤ pos 14) ≤ℤ exponent },
+    pub ghost most: { exponent ≤ℤ pos 13 },
+    pub ghost limit_is: { limit +ℤ pos 1 ≡ pos (2 ^ (omega + 2)) },
+    pub ghost half_in: { (pos 1 ≤ℤ half) × (half ≤ℤ pos 8192) },
+    pub ghost by_in: { (1 ≤ by) × (by ≤ 14) },
+    pub ghost factor_in: { (pos 1 ≤ℤ factor) × (factor ≤ℤ pos 8192) },
+    pub ghost lowered: { (r : ℕ) → exponent ≡ pos r → (half ≡ pos (2 ^ r)) × (by ≡ r + 1) },
+    pub ghost raised: { (k : ℕ) → exponent ≡ negsuc k → factor ≡ pos (2 ^ k) },
+}
+
+impl DeepStep {
+    /// Returns the parameters at an exponent.
+    pub fn new(omega: u32, bits: u32, exponent: i32) -> DeepStep
+        requires omega_in { (4 ≤ omega) × (omega ≤ 13) }
+        requires bits_in { bits ≤ 13 }
+        requires least { (pos bits -ℤ pos 14) ≤ℤ exponent }
+        requires most { exponent ≤ℤ pos 13 }
+        ensures omega { result.omega ≡ omega }
+        ensures bits { result.bits ≡ bits }
+        ensures exponent { result.exponent ≡ exponent }
+    {
         let limit = greatest_weight(omega);
         if exponent < 0 {
-            Step {
+            DeepStep {
                 omega,
                 bits,
                 exponent,
@@ -55,7 +126,7 @@ impl Step {
                 factor: power((-1 - exponent) as u32),
             }
         } else {
-            Step {
+            DeepStep {
                 omega,
                 bits,
                 exponent,

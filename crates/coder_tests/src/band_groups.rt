@@ -7,6 +7,7 @@ ghost use Rattle.file_encoding.specs.Walks.{IsSeen, AreAt};
 use crate::checks::same;
 use crate::predicted_runs::{Draw, Twice, cube_of, params_of};
 use cube_core::cube::Cube;
+use cube_core::kind::Kind;
 use group_prediction::predict::predict_group;
 use group_prediction::room::GroupRoom;
 use header_bits::params::Params;
@@ -157,6 +158,16 @@ fn group_is_the_same(
     rows_are_the_same(rt, params, &cube, &mut bands, &mut singles, room);
 }
 
+/// Returns the same parameters for samples of `bits` bits.
+fn with_bits(rt: &impl Abort, params: Params, bits: u32) -> Params
+    ensures { IsLawful result }
+{
+    let kind = Kind::new(false, bits).expect(rt, "a kind");
+    let params = Params { kind, ..params };
+    assert!(rt; params.check().is_ok());
+    params
+}
+
 /// Asserts that the first bands of an image and the last ones have the same residuals as a group as alone, in each mode and
 /// with each kind of local sum.
 fn groups_are_the_same(
@@ -164,6 +175,7 @@ fn groups_are_the_same(
     columns: u32,
     many: u32,
     previous: u32,
+    bits: u32,
     register: u32,
     room: &mut GroupRoom,
     alloc: Global,
@@ -173,19 +185,37 @@ fn groups_are_the_same(
     for (reduced, column) in [(false, true), (true, true), (false, false), (true, false)] {
         let bands = previous + many;
         let params = params_of(rt, columns, bands, previous, reduced, column, register);
+        let params = with_bits(rt, params, bits);
         group_is_the_same(rt, &params, 0, many, room, alloc);
         group_is_the_same(rt, &params, previous, bands, room, alloc);
     }
 }
 
-/// Checks groups of one to eight bands, in registers that may wrap and in one that doesn't.
+/// Checks groups of one to eight bands, of samples for each width of lanes, in registers that may wrap and in one that doesn't.
 #[test]
 fn a_group_has_the_residuals_of_each_band_alone(rt: HostRuntime) {
     let mut room = GroupRoom::new();
     for many in 1..9 {
-        for (columns, previous) in [(2, 3), (9, 0), (15, 7), (16, 1), (64, 15), (81, 3)] {
-            groups_are_the_same(&rt, columns, many, previous, 32, &mut room, rt.alloc());
-            groups_are_the_same(&rt, columns, many, previous, 64, &mut room, rt.alloc());
+        for (columns, previous, bits) in [
+            (2, 3, 12),
+            (15, 7, 13),
+            (16, 1, 16),
+            (64, 15, 13),
+            (65, 0, 12),
+            (81, 3, 13),
+        ] {
+            for register in [32, 64] {
+                groups_are_the_same(
+                    &rt,
+                    columns,
+                    many,
+                    previous,
+                    bits,
+                    register,
+                    &mut room,
+                    rt.alloc(),
+                );
+            }
         }
     }
 }

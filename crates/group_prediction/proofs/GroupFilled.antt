@@ -19,7 +19,7 @@ use Rattle.predict_core.specs.declared.settings.Settings.{Settings}
 use Rattle.group_prediction.specs.declared.band_lines.BandLines.{BandLines}
 use Rattle.predict_core.specs.Following.{PredictorState, IsPieceNext}
 use Rattle.group_prediction.specs.GroupLanes.{IsLane}
-use Rattle.predict_core.specs.BandLanes.{IsNarrow}
+use Rattle.predict_core.specs.BandLanes.{FitsNarrow}
 use Rattle.group_prediction.specs.GroupLines.{AreBandsLines}
 use Rattle.group_prediction.specs.GroupRooms.{AreReady, AreConstants}
 use Rattle.predict_core.specs.RunChains.{IsFollowed}
@@ -38,7 +38,7 @@ all_at P xs h i x e = subst P (get_or_from_slice_get xs i x x e) (all_get P xs h
 -- ---- the vector of a lane
 
 pub lane_filled : (q b : ℕ) (s : Settings) (v : PredictorState) (c : Image) (y x count : ℕ) (own : List (List ℤ)) (pairs : List Pairs) (l : BandLines)
-    → b < 8 → IsCube c → q ≤ 9 → AreConstants s v c → IsPieceNext v c y x count → IsNarrow v.predictor c.kind.bits
+    → b < 8 → IsCube c → q ≤ 9 → AreConstants s v c → IsPieceNext v c y x count → FitsNarrow v.predictor c.kind.bits
     → component_count v.predictor v.band ≤ 2 * q → 9 ≤ length pairs → AreBandsLines (2 * q) v.predictor v.band c y x count l
     → ((i : ℕ) → i < 64 → lane (get_or own i []) b ≡ get_or l.own i (pos 0))
     → ((j i : ℕ) → j < q → i < 64 → lane (row_at (get_or pairs j no_pairs) i) (2 * b) ≡ place l.components (2 * j) i)

@@ -9,11 +9,11 @@ use Rattle.sample_prediction.specs.declared.predictor.Predictor.{Predictor}
 use Rattle.sample_prediction.specs.LocalSum.{local_sum}
 use Rattle.sample_prediction.specs.Differences.{central_difference, directional_differences}
 use Rattle.sample_prediction.proofs.Spans.{span}
-use Rattle.predict_core.proofs.Ranges.{sum_within, central_within, directional_within}
+use Rattle.predict_core.proofs.Ranges.{sum_within, central_below, directional_below}
 
-module _ (p : Predictor) (c : Image) (cube : IsCube c) (bits : c.kind.bits ≤ 12) (z y x : ℕ) (later : 0 < y + x) (wide : p.column ≡ false → 2 ≤ c.shape.columns)
+module _ (p : Predictor) (c : Image) (cube : IsCube c) (bits : c.kind.bits ≤ 13) (z y x : ℕ) (later : 0 < y + x) (wide : p.column ≡ false → 2 ≤ c.shape.columns)
     (place : IsPlace c.shape z y x) where
-  power : 2 ^ c.kind.bits ≤ 2 ^ 12
+  power : 2 ^ c.kind.bits ≤ 2 ^ 13
   power = pow_mono bits
 
   pub sum_small : (sum : ℕ) → local_sum p c z y x ≡ pos 4 *ℤ smin c.kind +ℤ pos sum → sum < 2 ^ 15
@@ -21,10 +21,10 @@ module _ (p : Predictor) (c : Image) (cube : IsCube c) (bits : c.kind.bits ≤ 1
       let w = sum_within p c cube y x later wide z place in let s = span c.kind cube.bits in let q = power in omega (arith, ints, e, w.1, s, q)
 
   pub central_small : unsigned_abs (central_difference p c z y x) < 2 ^ 15
-  central_small = let w = central_within p c cube y x later wide z place in let q = power in omega (arith, w, q)
+  central_small = let w = central_below p c cube y x later wide z place in let q = power in omega (arith, w, q)
 
   pub directional_small : (k : ℕ) → k < length (directional_differences p c z y x) → unsigned_abs (get_or (directional_differences p c z y x) k (pos 0)) < 2 ^ 15
-  directional_small k l = let w = directional_within p c cube y x later wide z place k l in let q = power in omega (arith, w, q)
+  directional_small k l = let w = directional_below p c cube y x later wide z place k l in let q = power in omega (arith, w, q)
 
 -- an entry of 64 that are taken from an entry on
 pub taken_at : (xs : List ℕ) (from i : ℕ) → i < 64 → slice_index (take 64 (drop from xs)) i ≡ slice_index xs (from + i)

@@ -25,7 +25,7 @@ pub record IsLane (q b : ℕ) (s : Settings) (c : Image) (y x count : ℕ) (own 
   pub enough : s.count ≤ 2 * q
   pub register : NeverWraps s.predictor c.kind.bits s.count
   pub omega_in : s.predictor.omega ≤ 13
-  pub bits : c.kind.bits ≤ 12
+  pub bits : c.kind.bits ≤ 13
   pub central : (i : ℕ) → i < count → 0 < y + (x + i) → lane (slice_index_or own i []) b ≡ central_difference s.predictor c s.band y (x + i)
   pub vector : (i : ℕ) → i < count → 0 < y + (x + i)
       → components_of q b pairs i ≡ difference_vector s.predictor c s.band y (x + i) ++ replicate (2 * q - s.count) (pos 0)

@@ -9,7 +9,7 @@ use Rattle.sample_prediction.specs.Bounds.{AllWithin}
 use Rattle.predict_core.specs.declared.settings.Settings.{Settings}
 use Rattle.group_prediction.specs.declared.band_lines.BandLines.{BandLines}
 use Rattle.predict_core.specs.Following.{PredictorState, IsPieceNext}
-use Rattle.predict_core.specs.BandLanes.{IsNarrow}
+use Rattle.predict_core.specs.BandLanes.{FitsNarrow}
 use Rattle.group_prediction.specs.GroupLines.{HoldsSums, no_lines}
 use Rattle.predict_core.specs.RunChains.{IsFollowed}
 
@@ -18,7 +18,7 @@ use Rattle.predict_core.specs.RunChains.{IsFollowed}
 pub record AreReady (q : ℕ) (bands : List PredictorState) (c : Image) (y x n : ℕ) : Type 0 where
   pub predictor : Predictor
   pub each : AllByRecursion (λ b. (b.predictor ≡ predictor) × IsPieceNext b c y x n) bands
-  pub narrow : IsNarrow predictor c.kind.bits
+  pub narrow : FitsNarrow predictor c.kind.bits
   pub wide : predictor.column ≡ false → 2 ≤ c.shape.columns
   pub some : 1 ≤ n
   pub enough : (z : ℕ) → component_count predictor z ≤ 2 * q

@@ -39,7 +39,7 @@ pub(crate) fn fill_central(
 ) -> Lines
     requires row { rows.now.y ≡ y }
     requires place { IsPlace rows.now.image.shape z y x }
-    requires bits { rows.now.image.kind.bits ≤ 12 }
+    requires bits { rows.now.image.kind.bits ≤ 13 }
     requires some { 1 ≤ count }
     requires few { count ≤ 64 }
     requires inside { x + count ≤ rows.now.image.shape.columns }
@@ -74,7 +74,7 @@ fn fill_lower(
     requires row { rows.now.y ≡ y }
     requires place { IsPlace rows.now.image.shape settings.now.band y x }
     requires columns { rows.now.image.shape.columns ≡ settings.now.columns }
-    requires bits { rows.now.image.kind.bits ≤ 12 }
+    requires bits { rows.now.image.kind.bits ≤ 13 }
     requires some { 1 ≤ count }
     requires few { count ≤ 64 }
     requires inside { x + count ≤ rows.now.image.shape.columns }
@@ -113,7 +113,7 @@ fn fill_spectral(
     requires row { rows.now.y ≡ y }
     requires place { IsPlace rows.now.image.shape settings.now.band y x }
     requires columns { rows.now.image.shape.columns ≡ settings.now.columns }
-    requires bits { rows.now.image.kind.bits ≤ 12 }
+    requires bits { rows.now.image.kind.bits ≤ 13 }
     requires some { 1 ≤ count }
     requires few { count ≤ 64 }
     requires inside { x + count ≤ rows.now.image.shape.columns }
@@ -142,7 +142,7 @@ fn fill_spectral_line(
     requires row { rows.now.y ≡ y }
     requires place { IsPlace rows.now.image.shape settings.now.band y x }
     requires columns { rows.now.image.shape.columns ≡ settings.now.columns }
-    requires bits { rows.now.image.kind.bits ≤ 12 }
+    requires bits { rows.now.image.kind.bits ≤ 13 }
     requires some { 1 ≤ count }
     requires few { count ≤ 64 }
     requires inside { x + count ≤ rows.now.image.shape.columns }
@@ -182,7 +182,7 @@ pub(crate) fn fill_band(
     requires row { rows.now.y ≡ y }
     requires place { IsPlace rows.now.image.shape settings.now.band y x }
     requires columns { rows.now.image.shape.columns ≡ settings.now.columns }
-    requires bits { rows.now.image.kind.bits ≤ 12 }
+    requires bits { rows.now.image.kind.bits ≤ 13 }
     requires some { 1 ≤ count }
     requires few { count ≤ 64 }
     requires inside { x + count ≤ rows.now.image.shape.columns }
@@ -219,7 +219,7 @@ fn fill_components(
     requires row { rows.now.y ≡ y }
     requires place { IsPlace rows.now.image.shape settings.now.band y x }
     requires columns { rows.now.image.shape.columns ≡ settings.now.columns }
-    requires bits { rows.now.image.kind.bits ≤ 12 }
+    requires bits { rows.now.image.kind.bits ≤ 13 }
     requires some { 1 ≤ count }
     requires few { count ≤ 64 }
     requires inside { x + count ≤ rows.now.image.shape.columns }

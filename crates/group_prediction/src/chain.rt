@@ -10,18 +10,23 @@ ghost use Rattle.predict_core.specs.RunChains.{AreStepsThere, IsFollowed};
 
 use band_lanes::follow::follow_place;
 use band_lanes::pairs::{MOST_PAIRS, Pairs};
-use band_lanes::step::Step;
+use band_lanes::step::DeepStep;
 
 /// Writes the predicted central differences of the places `first..last` of a piece, each held in 16 bits, and updates the weights.
 ///
 /// The weights are kept in a copy of their own, so that the compiler can keep them in registers.
 #[inline(never)]
-pub(crate) fn follow_places<const Q: usize, const RAISED: bool, const LIMITED: bool>(
+pub(crate) fn follow_places<
+    const Q: usize,
+    const RAISED: bool,
+    const LIMITED: bool,
+    const DEEP: bool,
+>(
     weights: &mut [[i16; 16]; MOST_PAIRS],
     pairs: &[Pairs; MOST_PAIRS],
     own: &[[i16; 8]; 64],
     parts: &mut [[i16; 8]; 64],
-    step: Step,
+    step: DeepStep,
     first: usize,
     last: usize,
 )
@@ -32,6 +37,7 @@ pub(crate) fn follow_places<const Q: usize, const RAISED: bool, const LIMITED: b
     requires raised { RAISED ≡ true → step.exponent ≤ℤ negsuc 0 }
     requires lowered { RAISED ≡ false → pos 0 ≤ℤ step.exponent }
     requires whole { LIMITED ≡ false → step.omega ≡ 13 }
+    requires shallow { DEEP ≡ false → step.bits ≤ 12 }
     requires weights_in { (b : ℕ) → b < 8 → AllWithin (2 ^ (step.omega + 2)) (weights_of Q b weights.old) }
     ensures weights_in { (b : ℕ) → b < 8 → AllWithin (2 ^ (step.omega + 2)) (weights_of Q b weights.new) }
     ensures followed { (b : ℕ) (s : Constants) (c : Image) (y x start : ℕ) (begun : List ℤ) → b < 8 → IsLane Q b s c y x last own.now pairs.now
@@ -41,7 +47,7 @@ pub(crate) fn follow_places<const Q: usize, const RAISED: bool, const LIMITED: b
 {
     let mut working = *weights;
     for i in first..last {
-        let row = follow_place::<Q, RAISED, LIMITED>(&mut working, pairs, &own[i], i, step);
+        let row = follow_place::<Q, RAISED, LIMITED, DEEP>(&mut working, pairs, &own[i], i, step);
         parts[i] = row;
     }
     *weights = working;

@@ -25,7 +25,7 @@ pub(crate) fn fill_directions(
 )
     requires place { IsPlace rows.now.image.shape settings.now.band y x }
     requires columns { rows.now.image.shape.columns ≡ settings.now.columns }
-    requires bits { rows.now.image.kind.bits ≤ 12 }
+    requires bits { rows.now.image.kind.bits ≤ 13 }
     requires few { count ≤ 64 }
     requires inside { x + count ≤ rows.now.image.shape.columns }
     requires lines { AreBandLines settings.now.predictor rows.now.image settings.now.band y x count lines.now.current lines.now.above }

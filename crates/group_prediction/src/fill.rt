@@ -21,7 +21,7 @@ pub(crate) fn fill_lane(
 )
     requires row { rows.now.y ≡ y }
     requires next { IsPieceNext band.now rows.now.image y x count }
-    requires bits { rows.now.image.kind.bits ≤ 12 }
+    requires bits { rows.now.image.kind.bits ≤ 13 }
     requires some { 1 ≤ count }
     requires lines { n ≤ 18 }
     requires before { HoldCentrals band.now.predictor rows.now.image y x count before.now }
@@ -45,7 +45,7 @@ pub(crate) fn fill_lanes(
     requires some_bands { (1 ≤ length bands.now) × (length bands.now ≤ 8) }
     requires next { (i : ℕ) (b : PredictorState) → slice_get bands.now i ≡ Some b → IsPieceNext b rows.now.image y x count }
     requires alike { AreAlike bands.now }
-    requires bits { rows.now.image.kind.bits ≤ 12 }
+    requires bits { rows.now.image.kind.bits ≤ 13 }
     requires some { 1 ≤ count }
     requires lines { n ≤ 18 }
     ensures { (i : ℕ) (b : PredictorState) → i < 8 → slice_get bands.now (min i (length bands.now - 1)) ≡ Some b

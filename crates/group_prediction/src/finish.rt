@@ -34,7 +34,7 @@ fn write_piece(
     requires row { rows.now.y ≡ places.y }
     requires place { IsPlace rows.now.image.shape settings.now.band places.y places.x }
     requires kind { rows.now.image.kind ≡ settings.now.range.kind }
-    requires bits { rows.now.image.kind.bits ≤ 12 }
+    requires bits { rows.now.image.kind.bits ≤ 13 }
     requires some { 1 ≤ places.count }
     requires few { places.count ≤ 64 }
     requires inside { places.x + places.count ≤ rows.now.image.shape.columns }
@@ -78,7 +78,7 @@ fn finish_piece<const Q: usize>(
     requires pairs { Q ≤ 9 }
     requires lane { b < 8 }
     requires run { CanPredict settings.now rows.now.image places.y places.x places.count weights.old }
-    requires bits { rows.now.image.kind.bits ≤ 12 }
+    requires bits { rows.now.image.kind.bits ≤ 13 }
     requires first { IsFirstLater places.y places.x places.first }
     requires enough { settings.now.count ≤ 2 * Q }
     requires sums { HoldsSums settings.now.predictor rows.now.image settings.now.band places.y places.x places.count sums.now }
@@ -109,7 +109,7 @@ pub(crate) fn finish_band<const Q: usize>(
     requires lane { b < 8 }
     requires next { IsPieceNext band.old rows.now.image places.y places.x places.count }
     requires some { 1 ≤ places.count }
-    requires bits { rows.now.image.kind.bits ≤ 12 }
+    requires bits { rows.now.image.kind.bits ≤ 13 }
     requires first { IsFirstLater places.y places.x places.first }
     requires enough { length band.old.weights ≤ 2 * Q }
     requires sums { HoldsSums band.old.predictor rows.now.image band.old.band places.y places.x places.count sums.now }

@@ -1,6 +1,6 @@
 //! The mapped residuals of a piece, computed in 16 bits.
 //!
-//! Samples of at most 12 bits leave room for it, so that a vector holds twice as many places as one of 32 bits. What
+//! Samples of at most 13 bits leave room for it, so that a vector holds twice as many places as one of 32 bits. What
 //! is computed is what `predict_core::mapping` computes for a run, and as there no step has a branch.
 
 ghost use Rattle.std.specs.Prelude.{◌≡◌, ◌+◌, ◌^◌, ◌<◌, ◌≤◌, ℕ, pos, negsuc, ◌≤ℤ◌, ◌+ℤ◌, ◌-ℤ◌, ◌*ℤ◌, unsigned_abs, length, replicate, slice_index, slice_index_or};
@@ -32,7 +32,7 @@ pub(crate) fn map_piece(
     requires row { rows.now.y ≡ y }
     requires place { IsPlace rows.now.image.shape settings.now.band y x }
     requires kind { rows.now.image.kind ≡ settings.now.range.kind }
-    requires bits { rows.now.image.kind.bits ≤ 12 }
+    requires bits { rows.now.image.kind.bits ≤ 13 }
     requires few { count ≤ 64 }
     requires inside { x + count ≤ rows.now.image.shape.columns }
     requires sum { (i : ℕ) → i < count → 0 < y + (x + i) → pos 4 *ℤ smin rows.now.image.kind +ℤ slice_index_or sums.now i (pos 0)
@@ -75,7 +75,7 @@ fn map_places(
     offsets: &[u16; 64],
     out: &mut [u16; 64],
 )
-    requires greatest_in { (pos 1 ≤ℤ greatest) × (greatest ≤ℤ pos 4095) }
+    requires greatest_in { (pos 1 ≤ℤ greatest) × (greatest ≤ℤ pos 8191) }
     requires offsets_in { (i : ℕ) → i < 64 → pos (slice_index offsets.now i) ≤ℤ greatest }
     ensures bound { (i : ℕ) → i < 64 → pos (slice_index out.new i) ≤ℤ greatest }
     ensures values { (i : ℕ) → i < 64 → slice_index out.new i
@@ -89,7 +89,7 @@ fn map_places(
 /// Returns the mapped residual of an offset, from the predicted central difference and the local sum of offsets.
 #[inline(always)]
 fn number_of_offset(greatest: i16, part: i16, sum: i16, offset: u16) -> u16
-    requires greatest_in { (pos 1 ≤ℤ greatest) × (greatest ≤ℤ pos 4095) }
+    requires greatest_in { (pos 1 ≤ℤ greatest) × (greatest ≤ℤ pos 8191) }
     requires offset_in { pos offset ≤ℤ greatest }
     ensures bound { pos result ≤ℤ greatest }
     ensures value { result ≡ offset_number greatest part sum offset }
@@ -100,7 +100,7 @@ fn number_of_offset(greatest: i16, part: i16, sum: i16, offset: u16) -> u16
 /// Returns the mapped residual of an offset, from its scaled prediction.
 #[inline(always)]
 fn number_at(greatest: i16, twice: i16, offset: i16) -> i16
-    requires greatest_in { (pos 1 ≤ℤ greatest) × (greatest ≤ℤ pos 4095) }
+    requires greatest_in { (pos 1 ≤ℤ greatest) × (greatest ≤ℤ pos 8191) }
     requires twice_in { (pos 0 ≤ℤ twice) × (twice ≤ℤ (pos 2 *ℤ greatest +ℤ pos 1)) }
     requires offset_in { (pos 0 ≤ℤ offset) × (offset ≤ℤ greatest) }
     ensures value { result ≡ pos (mapped_between (pos 0) greatest twice offset) }
@@ -114,10 +114,10 @@ fn number_at(greatest: i16, twice: i16, offset: i16) -> i16
 /// Returns the distance between two offsets.
 #[inline(always)]
 fn apart(offset: i16, value: i16) -> i16
-    requires offset_in { unsigned_abs offset ≤ 4095 }
-    requires value_in { unsigned_abs value ≤ 4095 }
+    requires offset_in { unsigned_abs offset ≤ 8191 }
+    requires value_in { unsigned_abs value ≤ 8191 }
     ensures value { result ≡ pos (unsigned_abs (offset -ℤ value)) }
-    ensures bound { unsigned_abs result ≤ 8190 }
+    ensures bound { unsigned_abs result ≤ 16382 }
 {
     (offset - value).abs()
 }

@@ -4,7 +4,7 @@ ghost use Rattle.std.specs.Prelude.{◌≡◌, ◌+◌, ◌*◌, ◌≤◌, ℕ,
 ghost use Rattle.std.specs.List.{AllZip};
 ghost use Rattle.sample_prediction.specs.Predictor.{component_count};
 ghost use Rattle.predict_core.specs.Following.{HoldsPiece};
-ghost use Rattle.predict_core.specs.BandLanes.{IsNarrow};
+ghost use Rattle.predict_core.specs.BandLanes.{FitsNarrow};
 ghost use Rattle.group_prediction.specs.GroupPieces.{ArePiecesNext};
 ghost use Rattle.group_prediction.specs.GroupRooms.{AreReady};
 ghost use Rattle.predict_core.specs.Largest.{NeverWraps};
@@ -15,7 +15,7 @@ use crate::long::side_by_side::predict_side_by_side as predict_long;
 use crate::room::GroupRoom;
 use crate::side_by_side::predict_side_by_side;
 use predict_core::band::Band;
-use predict_core::exact_lanes::{is_narrow, never_wraps, pairs_of};
+use predict_core::exact_lanes::{fits_narrow, never_wraps, pairs_of};
 use sample_prediction::rows::Rows;
 
 /// The least numbers of bands and of places that are worth the work of going side by side.
@@ -106,12 +106,12 @@ fn predict_each(bands: &mut [Band], rows: &Rows, y: u32, x: u32, count: usize)
 
 /// Returns whether lanes of 16 bits are exact for a band's parameters, and how many pairs hold the components.
 fn lanes_of(band: &Band) -> (bool, usize)
-    ensures narrow { result.0 ≡ true → IsNarrow band.now.predictor band.now.kind.bits }
+    ensures narrow { result.0 ≡ true → FitsNarrow band.now.predictor band.now.kind.bits }
     ensures wide { band.now.predictor.column ≡ false → 2 ≤ band.now.shape.columns }
     ensures few { result.1 ≤ 9 }
     ensures enough { (z : ℕ) → component_count band.now.predictor z ≤ 2 * result.1 }
 {
-    (is_narrow(&band.settings), pairs_of(&band.settings))
+    (fits_narrow(&band.settings), pairs_of(&band.settings))
 }
 
 /// Returns whether lanes of 32 bits are exact for a band's parameters, and how many pairs hold the components.
@@ -143,16 +143,51 @@ fn predict_by(
     ensures held { result ≡ true → AllZip (HoldsPiece rows.now.image count) bands.old bands.new }
     ensures kept { result ≡ false → bands.new ≡ bands.old }
 {
+    if is_deep(&bands[0]) {
+        return predict_deep(bands, rows, y, x, count, pairs, room);
+    }
     match pairs {
-        0 | 1 => predict_side_by_side::<1>(bands, rows, y, x, count, room),
-        2 => predict_side_by_side::<2>(bands, rows, y, x, count, room),
-        3 => predict_side_by_side::<3>(bands, rows, y, x, count, room),
-        4 => predict_side_by_side::<4>(bands, rows, y, x, count, room),
-        5 => predict_side_by_side::<5>(bands, rows, y, x, count, room),
-        6 => predict_side_by_side::<6>(bands, rows, y, x, count, room),
-        7 => predict_side_by_side::<7>(bands, rows, y, x, count, room),
-        8 => predict_side_by_side::<8>(bands, rows, y, x, count, room),
-        _ => predict_side_by_side::<9>(bands, rows, y, x, count, room),
+        0 | 1 => predict_side_by_side::<1, false>(bands, rows, y, x, count, room),
+        2 => predict_side_by_side::<2, false>(bands, rows, y, x, count, room),
+        3 => predict_side_by_side::<3, false>(bands, rows, y, x, count, room),
+        4 => predict_side_by_side::<4, false>(bands, rows, y, x, count, room),
+        5 => predict_side_by_side::<5, false>(bands, rows, y, x, count, room),
+        6 => predict_side_by_side::<6, false>(bands, rows, y, x, count, room),
+        7 => predict_side_by_side::<7, false>(bands, rows, y, x, count, room),
+        8 => predict_side_by_side::<8, false>(bands, rows, y, x, count, room),
+        _ => predict_side_by_side::<9, false>(bands, rows, y, x, count, room),
+    }
+}
+
+/// Returns whether a band's samples have more than 12 bits.
+fn is_deep(band: &Band) -> bool
+    ensures { result ≡ false → band.now.kind.bits ≤ 12 }
+{
+    band.settings.range.bits > 12
+}
+
+/// `predict_by` for samples of 13 bits, in two forms alone: for the usual numbers of components, and for all.
+#[tactic(auto, using(crate::proofs::GroupFilled::ready_more))]
+fn predict_deep(
+    bands: &mut [Band],
+    rows: &Rows,
+    y: u32,
+    x: u32,
+    count: usize,
+    pairs: usize,
+    room: &mut GroupRoom,
+) -> bool
+    requires row { rows.now.y ≡ y }
+    requires pairs { pairs ≤ 9 }
+    requires few { (1 ≤ length bands.old) × (length bands.old ≤ 8) }
+    requires ready { AreReady pairs bands.old rows.now.image y x count }
+    ensures held { result ≡ true → AllZip (HoldsPiece rows.now.image count) bands.old bands.new }
+    ensures kept { result ≡ false → bands.new ≡ bands.old }
+{
+    if pairs <= 3 {
+        predict_side_by_side::<3, true>(bands, rows, y, x, count, room)
+    } else {
+        predict_side_by_side::<9, true>(bands, rows, y, x, count, room)
     }
 }
 

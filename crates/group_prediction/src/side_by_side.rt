@@ -8,7 +8,7 @@ ghost use Rattle.sample_prediction.specs.Bounds.{AllWithin};
 ghost use Rattle.predict_core.specs.declared.settings.Settings.{Settings as Constants};
 ghost use Rattle.predict_core.specs.Following.{PredictorState, IsPieceNext, HoldsPiece};
 ghost use Rattle.group_prediction.specs.GroupLanes.{IsLane};
-ghost use Rattle.predict_core.specs.BandLanes.{IsNarrow};
+ghost use Rattle.predict_core.specs.BandLanes.{FitsNarrow};
 ghost use Rattle.group_prediction.specs.GroupRooms.{AreReady, IsPredicted};
 ghost use Rattle.predict_core.specs.Following.{no_band};
 ghost use Rattle.predict_core.specs.RunChains.{IsFirstLater, IsFollowed};
@@ -27,7 +27,7 @@ use predict_core::lane_weights::fill_weights;
 use sample_prediction::rows::Rows;
 
 /// `follow_piece` with the constants of a band's predictor.
-fn follow_band<const Q: usize>(
+fn follow_band<const Q: usize, const DEEP: bool>(
     band: &Band,
     places: Places,
     pairs: &[Pairs; MOST_PAIRS],
@@ -41,7 +41,8 @@ fn follow_band<const Q: usize>(
     requires place { IsPlace band.now.shape band.now.band places.y places.x }
     requires inside { places.x + places.count ≤ band.now.shape.columns }
     requires later { 0 < places.y + (places.x + places.first) }
-    requires narrow { IsNarrow band.now.predictor band.now.kind.bits }
+    requires narrow { FitsNarrow band.now.predictor band.now.kind.bits }
+    requires shallow { DEEP ≡ false → band.now.kind.bits ≤ 12 }
     requires below { (i : ℕ) → places.first ≤ i → i < places.count → AreBelow (2 ^ (band.now.kind.bits + 2)) Q pairs.now i }
     requires weights_in { (b : ℕ) → b < 8 → AllWithin (2 ^ (band.now.predictor.omega + 2)) (weights_of Q b weights.old) }
     ensures weights_in { (b : ℕ) → b < 8 → AllWithin (2 ^ (band.now.predictor.omega + 2)) (weights_of Q b weights.new) }
@@ -50,11 +51,11 @@ fn follow_band<const Q: usize>(
         → IsFollowed s c places.y places.x places.first (weights_of Q b weights.old) places.first (weights_of Q b weights.old) (numbers_of b parts.old)
         → IsFollowed s c places.y places.x places.first (weights_of Q b weights.old) places.count (weights_of Q b weights.new) (numbers_of b parts.new) }
 {
-    follow_piece::<Q>(&band.settings, places, pairs, own, weights, parts);
+    follow_piece::<Q, DEEP>(&band.settings, places, pairs, own, weights, parts);
 }
 
 /// Predicts the differences of a piece of some bands, and returns whether 16 bits hold their weights. If not, nothing is predicted.
-fn predict_lanes<const Q: usize>(
+fn predict_lanes<const Q: usize, const DEEP: bool>(
     bands: &[Band],
     rows: &Rows,
     places: Places,
@@ -65,6 +66,7 @@ fn predict_lanes<const Q: usize>(
     requires few { (1 ≤ length bands.now) × (length bands.now ≤ 8) }
     requires ready { AreReady Q bands.now rows.now.image places.y places.x places.count }
     requires first { IsFirstLater places.y places.x places.first }
+    requires shallow { DEEP ≡ false → rows.now.image.kind.bits ≤ 12 }
     ensures { result ≡ true → (k : ℕ) (b : PredictorState) → slice_get bands.now k ≡ Some b
         → IsPredicted Q k b rows.now.image places.y places.x places.first places.count room.new.bands room.new.weights room.new.parts }
 {
@@ -84,7 +86,7 @@ fn predict_lanes<const Q: usize>(
     fill_pairs::<Q>(&room.bands, &mut room.scratch, &mut room.pairs);
     fill_own_rows(&room.bands, &mut room.parts, &mut room.own);
     let band = &bands[0];
-    follow_band::<Q>(
+    follow_band::<Q, DEEP>(
         band,
         places,
         &room.pairs,
@@ -126,7 +128,7 @@ fn finish_lane<const Q: usize>(
     requires band { k < length bands.old }
     requires next { IsPieceNext (slice_index_or bands.old k no_band) rows.now.image places.y places.x places.count }
     requires some { 1 ≤ places.count }
-    requires bits { rows.now.image.kind.bits ≤ 12 }
+    requires bits { rows.now.image.kind.bits ≤ 13 }
     requires first { IsFirstLater places.y places.x places.first }
     requires enough { length (slice_index_or bands.old k no_band).weights ≤ 2 * Q }
     requires predicted { IsPredicted Q k (slice_index_or bands.old k no_band) rows.now.image places.y places.x places.first places.count room.now.bands room.now.weights room.now.parts }
@@ -148,7 +150,7 @@ fn finish_lane<const Q: usize>(
 /// Advances some bands by a piece side by side, and returns whether 16 bits hold their weights. If not, no band is advanced.
 ///
 /// `Q` pairs hold the components of each band.
-pub(crate) fn predict_side_by_side<const Q: usize>(
+pub(crate) fn predict_side_by_side<const Q: usize, const DEEP: bool>(
     bands: &mut [Band],
     rows: &Rows,
     y: u32,
@@ -160,12 +162,13 @@ pub(crate) fn predict_side_by_side<const Q: usize>(
     requires pairs { Q ≤ 9 }
     requires few { (1 ≤ length bands.old) × (length bands.old ≤ 8) }
     requires ready { AreReady Q bands.old rows.now.image y x count }
+    requires shallow { DEEP ≡ false → rows.now.image.kind.bits ≤ 12 }
     ensures held { result ≡ true → AllZip (HoldsPiece rows.now.image count) bands.old bands.new }
     ensures kept { result ≡ false → bands.new ≡ bands.old }
 {
     let first = first_later(y, x);
     let places = Places { y, x, first, count };
-    if !predict_lanes::<Q>(bands, rows, places, room) {
+    if !predict_lanes::<Q, DEEP>(bands, rows, places, room) {
         return false;
     }
     finish_lanes::<Q>(bands, rows, places, room);

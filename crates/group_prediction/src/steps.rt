@@ -6,13 +6,13 @@ ghost use Rattle.band_lanes.specs.Rows.{numbers_of, weights_of, AreBelow};
 ghost use Rattle.sample_prediction.specs.Bounds.{AllWithin};
 ghost use Rattle.predict_core.specs.declared.settings.Settings.{Settings as Constants};
 ghost use Rattle.group_prediction.specs.GroupLanes.{IsLane};
-ghost use Rattle.predict_core.specs.BandLanes.{IsNarrow};
+ghost use Rattle.predict_core.specs.BandLanes.{FitsNarrow};
 ghost use Rattle.predict_core.specs.RunChains.{AreStepsThere, IsFollowed};
 
 use crate::chain::follow_places;
 use crate::places::Places;
 use band_lanes::pairs::{MOST_PAIRS, Pairs};
-use band_lanes::step::Step;
+use band_lanes::step::DeepStep;
 use predict_core::settings::Settings;
 use sample_prediction::exponent::{exponent_at, places_alike};
 
@@ -20,7 +20,7 @@ use sample_prediction::exponent::{exponent_at, places_alike};
 /// updates the weights.
 ///
 /// `settings` are those of one of the bands, which have the same parameters (CCSDS 123.0-B-1, "Weight Update").
-pub(crate) fn follow_piece<const Q: usize>(
+pub(crate) fn follow_piece<const Q: usize, const DEEP: bool>(
     settings: &Settings,
     places: Places,
     pairs: &[Pairs; MOST_PAIRS],
@@ -34,7 +34,8 @@ pub(crate) fn follow_piece<const Q: usize>(
     requires row { places.y < 65536 }
     requires inside { places.x + places.count ≤ settings.now.columns }
     requires later { 0 < places.y + (places.x + places.first) }
-    requires narrow { IsNarrow settings.now.predictor settings.now.range.bits }
+    requires narrow { FitsNarrow settings.now.predictor settings.now.range.bits }
+    requires shallow { DEEP ≡ false → settings.now.range.bits ≤ 12 }
     requires below { (i : ℕ) → places.first ≤ i → i < places.count → AreBelow (2 ^ (settings.now.range.bits + 2)) Q pairs.now i }
     requires weights_in { (b : ℕ) → b < 8 → AllWithin (2 ^ (settings.now.predictor.omega + 2)) (weights_of Q b weights.old) }
     ensures weights_in { (b : ℕ) → b < 8 → AllWithin (2 ^ (settings.now.predictor.omega + 2)) (weights_of Q b weights.new) }
@@ -51,30 +52,31 @@ pub(crate) fn follow_piece<const Q: usize>(
     while at < places.count {
         let t = start + at as u64;
         let next = at + places_alike(predictor, columns, t, places.count - at);
-        let step = Step::new(
+        let step = DeepStep::new(
             predictor.omega,
             bits,
             exponent_at(predictor, columns, bits, t),
         );
-        follow_by::<Q>(weights, pairs, own, parts, step, at, next);
+        follow_by::<Q, DEEP>(weights, pairs, own, parts, step, at, next);
         at = next;
     }
 }
 
 /// `follow_places` by the form that a step asks for.
 #[inline(always)]
-fn follow_by<const Q: usize>(
+fn follow_by<const Q: usize, const DEEP: bool>(
     weights: &mut [[i16; 16]; MOST_PAIRS],
     pairs: &[Pairs; MOST_PAIRS],
     own: &[[i16; 8]; 64],
     parts: &mut [[i16; 8]; 64],
-    step: Step,
+    step: DeepStep,
     first: usize,
     last: usize,
 )
     requires few { Q ≤ 9 }
     requires order { first ≤ last }
     requires last { last ≤ 64 }
+    requires shallow { DEEP ≡ false → step.bits ≤ 12 }
     requires below { (i : ℕ) → first ≤ i → i < last → AreBelow (2 ^ (step.bits + 2)) Q pairs.now i }
     requires weights_in { (b : ℕ) → b < 8 → AllWithin (2 ^ (step.omega + 2)) (weights_of Q b weights.old) }
     ensures weights_in { (b : ℕ) → b < 8 → AllWithin (2 ^ (step.omega + 2)) (weights_of Q b weights.new) }
@@ -85,13 +87,13 @@ fn follow_by<const Q: usize>(
 {
     if step.exponent < 0 {
         if step.omega < 13 {
-            follow_places::<Q, true, true>(weights, pairs, own, parts, step, first, last);
+            follow_places::<Q, true, true, DEEP>(weights, pairs, own, parts, step, first, last);
         } else {
-            follow_places::<Q, true, false>(weights, pairs, own, parts, step, first, last);
+            follow_places::<Q, true, false, DEEP>(weights, pairs, own, parts, step, first, last);
         }
     } else if step.omega < 13 {
-        follow_places::<Q, false, true>(weights, pairs, own, parts, step, first, last);
+        follow_places::<Q, false, true, DEEP>(weights, pairs, own, parts, step, first, last);
     } else {
-        follow_places::<Q, false, false>(weights, pairs, own, parts, step, first, last);
+        follow_places::<Q, false, false, DEEP>(weights, pairs, own, parts, step, first, last);
     }
 }

@@ -7,7 +7,7 @@ use Rattle.cube_core.specs.Image.{Image, IsCube, IsPlace}
 use Rattle.lanes.specs.Lanes.{held}
 use Rattle.predict_core.specs.declared.settings.Settings.{Settings}
 use Rattle.predict_core.specs.Largest.{NeverWraps}
-use Rattle.predict_core.specs.BandLanes.{IsPart, IsNarrow}
+use Rattle.predict_core.specs.BandLanes.{IsPart, IsNarrow, FitsNarrow}
 use Rattle.sample_prediction.specs.Arithmetic.{floor_div, clip, wrapped}
 use Rattle.sample_prediction.specs.Bounds.{AllWithin}
 use Rattle.sample_prediction.specs.Chain.{scaled_by_difference}
@@ -31,7 +31,7 @@ use Rattle.sample_prediction.specs.declared.predictor.Predictor.{Predictor}
 -- ---- the part of the products, held in 16 bits
 
 -- it leads to the same scaled prediction
-held_as_well : (low high middle sum part half held_half : ℤ) (power : ℕ) → power ≤ 4096 → high -ℤ low ≡ pos power -ℤ pos 1
+held_as_well : (low high middle sum part half held_half : ℤ) (power : ℕ) → power ≤ 8192 → high -ℤ low ≡ pos power -ℤ pos 1
     → (pos 2 *ℤ half) ≤ℤ (part +ℤ (sum -ℤ pos 4 *ℤ middle)) → (part +ℤ (sum -ℤ pos 4 *ℤ middle)) ≤ℤ (pos 2 *ℤ half +ℤ pos 1)
     → (pos 2 *ℤ held_half) ≤ℤ (held part +ℤ (sum -ℤ pos 4 *ℤ middle)) → (held part +ℤ (sum -ℤ pos 4 *ℤ middle)) ≤ℤ (pos 2 *ℤ held_half +ℤ pos 1)
     → (pos 4 *ℤ low) ≤ℤ sum → sum ≤ℤ (pos 4 *ℤ high)
@@ -40,10 +40,10 @@ held_as_well : (low high middle sum part half held_half : ℤ) (power : ℕ) →
 held_as_well low high middle sum part half held_half power p w a b d e f g = omega (arith, ints, clamps, p, w, a, b, d, e, f, g)
 
 -- what 16 bits hold of a part leads to the same scaled prediction
-held_scaled : (k : SampleKind) (sum part : ℤ) → IsKind k → k.bits ≤ 12 → Between (pos 4 *ℤ smin k) (pos 4 *ℤ smax k) sum
+held_scaled : (k : SampleKind) (sum part : ℤ) → IsKind k → k.bits ≤ 13 → Between (pos 4 *ℤ smin k) (pos 4 *ℤ smax k) sum
     → scaled_by_difference k (held part) sum ≡ scaled_by_difference k part sum
 held_scaled k sum part is few h =
-    let power : 2 ^ k.bits ≤ 2 ^ 12 = pow_mono few in
+    let power : 2 ^ k.bits ≤ 2 ^ 13 = pow_mono few in
     let a = floor_low (part +ℤ (sum -ℤ pos 4 *ℤ smid k)) 2 (omega arith) in let b = floor_high (part +ℤ (sum -ℤ pos 4 *ℤ smid k)) 2 (omega arith) in
     let d = floor_low (held part +ℤ (sum -ℤ pos 4 *ℤ smid k)) 2 (omega arith) in let e = floor_high (held part +ℤ (sum -ℤ pos 4 *ℤ smid k)) 2 (omega arith) in
     held_as_well (smin k) (smax k) (smid k) sum part (floor_div (part +ℤ (sum -ℤ pos 4 *ℤ smid k)) 2) (floor_div (held part +ℤ (sum -ℤ pos 4 *ℤ smid k)) 2)
@@ -76,6 +76,15 @@ exponent_least p columns bits t o h = let l = h.least in omega (arith, ints, cla
 pub exponent_most : (p : Predictor) (columns bits t : ℕ) → p.vmin ≤ℤ p.vmax → IsNarrow p bits → step_exponent p columns bits t ≤ℤ pos 13
 unfolding step_exponent growth
 exponent_most p columns bits t o h = let m = h.most in omega (arith, ints, clamps, m, o)
+
+-- the same for samples of up to 13 bits
+pub exponent_fits_least : (p : Predictor) (columns bits t : ℕ) → p.vmin ≤ℤ p.vmax → FitsNarrow p bits → (pos bits -ℤ pos 14) ≤ℤ step_exponent p columns bits t
+unfolding step_exponent growth
+exponent_fits_least p columns bits t o h = let l = h.least in omega (arith, ints, clamps, l, o)
+
+pub exponent_fits_most : (p : Predictor) (columns bits t : ℕ) → p.vmin ≤ℤ p.vmax → FitsNarrow p bits → step_exponent p columns bits t ≤ℤ pos 13
+unfolding step_exponent growth
+exponent_fits_most p columns bits t o h = let m = h.most in omega (arith, ints, clamps, m, o)
 
 -- ---- one place
 

@@ -2,21 +2,28 @@
 
 ghost use Rattle.std.specs.Prelude.{◌≡◌, ◌+◌, ◌*◌, ◌≤◌, ℕ, true};
 ghost use Rattle.sample_prediction.specs.Predictor.{component_count};
-ghost use Rattle.predict_core.specs.BandLanes.{IsNarrow};
+ghost use Rattle.predict_core.specs.BandLanes.{IsNarrow, FitsNarrow};
 ghost use Rattle.predict_core.specs.Largest.{NeverWraps};
 
 use crate::band::first_spectral;
 use crate::settings::Settings;
 
-/// Returns whether lanes of 16 bits are exact for some parameters.
+/// Returns whether lanes of 16 bits are exact for some parameters, and leave room for sums of four products and for a step's rounding.
 pub fn is_narrow(settings: &Settings) -> bool
     ensures { result ≡ true → IsNarrow settings.now.predictor settings.now.range.bits }
+{
+    settings.range.bits <= 12 && fits_narrow(settings)
+}
+
+/// Returns whether lanes of 16 bits are exact for some parameters.
+pub fn fits_narrow(settings: &Settings) -> bool
+    ensures { result ≡ true → FitsNarrow settings.now.predictor settings.now.range.bits }
 {
     let predictor = &settings.predictor;
     let (omega, bits) = (predictor.omega as i32, settings.range.bits as i32);
     never_wraps(settings)
         && omega <= 13
-        && bits <= 12
+        && bits <= 13
         && omega <= predictor.vmin + 14
         && predictor.vmax + bits <= omega + 13
 }

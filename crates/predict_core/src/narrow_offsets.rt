@@ -10,7 +10,7 @@ ghost use Rattle.sample_prediction.specs.Residual.{theta_between};
 /// Where 16 bits don't hold the sum of both, what they hold lies on the same side of the range, and far beyond it.
 #[inline(always)]
 pub fn scaled_offset(greatest: i16, part: i16, sum: i16) -> i16
-    requires greatest_in { (pos 1 ≤ℤ greatest) × (greatest ≤ℤ pos 4095) }
+    requires greatest_in { (pos 1 ≤ℤ greatest) × (greatest ≤ℤ pos 8191) }
     ensures bounds { (pos 0 ≤ℤ result) × (result ≤ℤ (pos 2 *ℤ greatest +ℤ pos 1)) }
     ensures value { result ≡ clip (floor_div (part +ℤ sum) 2 +ℤ pos 1) (pos 0) (pos 2 *ℤ greatest +ℤ pos 1) }
 {
@@ -39,7 +39,7 @@ pub fn half_of(twice: i16) -> i16
 /// Returns the distance of an offset from the nearer end of the range.
 #[inline(always)]
 pub fn nearer(greatest: i16, value: i16) -> i16
-    requires greatest_in { greatest ≤ℤ pos 4095 }
+    requires greatest_in { greatest ≤ℤ pos 8191 }
     requires value_in { (pos 0 ≤ℤ value) × (value ≤ℤ greatest) }
     ensures value { result ≡ pos (theta_between (pos 0) greatest value) }
     ensures bound { unsigned_abs result ≤ 4095 }

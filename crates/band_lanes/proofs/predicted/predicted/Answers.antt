@@ -37,7 +37,7 @@ loop-k-preserved g c b l =
     let r = vector w32 8 c.group_sum-sum.result _ c.group_sum-sum.type_inv in let h = vector w32 8 c.with_whole-high.result _ c.with_whole-high.type_inv in
     let w = vector w32 8 c.with_rest-low.result _ c.with_rest-low.type_inv in
     let size : unsigned_abs number ≤ 2 ^ 31 = (let s = (r.1 b).sfits in omega (arith, ints, s)) in
-    let grown = one_more c.args.omega k _ _ _ number c.requires.omega_in.0 c.requires.omega_in.1 few.0 size (c.loop-k.invariant b l) in
+    let grown = one_more c.args.omega k _ _ _ number c.requires.omega_in.0 c.requires.omega_in.1 (let f = few.0 in omega (arith, f)) size (c.loop-k.invariant b l) in
     let told = kept w32 c.group_sum-sum.result b r.1 in
     let high = lane (map (to_z w32) c.loop-k.high) b in let low = lane (map (to_z w32) c.loop-k.low) b in
     let high_fits : unsigned_abs (high +ℤ halved number c.args.omega) < 2 ^ 31 = (let s = grown.high_in in let f = few.0 in omega (arith, s, f)) in

@@ -27,7 +27,7 @@ returns c k l = go c.args.step.exponent refl
         let rounding : ℤ = c.args.step.half in let low : pos 0 ≤ℤ rounding = (let h = c.args.step.half_in.0 in omega (arith, ints, h)) in
         let high : rounding ≤ℤ pos 8192 = c.args.step.half_in.1 in
         let few : r ≤ 13 = (let h = c.args.step.most in omega (arith, ints, h, e)) in
-        let bits : c.args.step.bits + 2 ≤ 14 = (let h = c.args.step.bits_in in omega (arith, h)) in
+        let bits : c.args.step.bits + 2 ≤ 14 = (let h = c.requires.shallow in omega (arith, h)) in
         let top : 2 ^ (c.args.step.bits + 2) ≤ 2 ^ 14 = pow_mono bits in
         let same_own = kept w16 c.args.own (k / 2) own.1 in let same_predicted = kept w16 c.args.predicted (k / 2) predicted.1 in
         let same_u = kept w16 c.args.components k u.1 in

@@ -9,8 +9,8 @@ pub raised-requires-clause-small : goal.raised-requires-clause-small
 raised-requires-clause-small g c k l =
     let u = vector w16 16 c.args.components _ c.well_formed.0 in rw (kept w16 c.args.components k u.1) (c.requires.small k l)
 
-pub lowered-requires-clause-small : goal.lowered-requires-clause-small
-lowered-requires-clause-small g c k l =
+pub unraised-requires-clause-small : goal.unraised-requires-clause-small
+unraised-requires-clause-small g c k l =
     let u = vector w16 16 c.args.components _ c.well_formed.0 in rw (kept w16 c.args.components k u.1) (c.requires.small k l)
 
 pub returns : goal.returns
@@ -24,6 +24,6 @@ returns g c k l =
           (let r = vector w16 16 w.raised.result _ w.raised.type_inv in
           ap (λ xs. lane (map (to_z w16) xs) k) w.result-is ∙ kept w16 w.raised.result k r.1 ∙ w.raised.ensures k l ∙ rw (same_own, same_predicted, same_u) refl)
       | else-this-ne0 w ↦
-          (let r = vector w16 16 w.lowered.result _ w.lowered.type_inv in
-          ap (λ xs. lane (map (to_z w16) xs) k) w.result-is ∙ kept w16 w.lowered.result k r.1 ∙ w.lowered.ensures k l ∙ rw (same_own, same_predicted, same_u) refl)
+          (let r = vector w16 16 w.unraised.result _ w.unraised.type_inv in
+          ap (λ xs. lane (map (to_z w16) xs) k) w.result-is ∙ kept w16 w.unraised.result k r.1 ∙ w.unraised.ensures k l ∙ rw (same_own, same_predicted, same_u) refl)
     ]

@@ -13,10 +13,10 @@ use Rattle.group_prediction.proofs.mapping.map_piece.Goals.{After-copy_offsets}
 in_power : (width : ℤ) (h power : ℕ) → width ≡ pos power -ℤ pos 1 → pos h ≤ℤ width → h < power
 in_power width h power e l = omega (arith, ints, e, l)
 
-narrow : (width : ℤ) (power : ℕ) → width ≡ pos power -ℤ pos 1 → 4 ≤ power → power ≤ 4096 → (pos 1 ≤ℤ width) × (width ≤ℤ pos 4095)
+narrow : (width : ℤ) (power : ℕ) → width ≡ pos power -ℤ pos 1 → 4 ≤ power → power ≤ 8192 → (pos 1 ≤ℤ width) × (width ≤ℤ pos 8191)
 narrow width power e l m = (omega (arith, ints, e, l), omega (arith, ints, e, m))
 
-small : (width : ℤ) → pos 1 ≤ℤ width → width ≤ℤ pos 4095 → SFits w16 width
+small : (width : ℤ) → pos 1 ≤ℤ width → width ≤ℤ pos 8191 → SFits w16 width
 small width l m = fits_signed_from_abs w16 width (omega (arith, ints, l, m))
 
 -- from the least offset to the greatest
@@ -37,10 +37,10 @@ module _ (c : After-copy_offsets) where
   powers : smax k -ℤ smin k ≡ pos (2 ^ k.bits) -ℤ pos 1
   powers = span k c.prove_is_row.ensures.cube.bits
 
-  bounds : (pos 1 ≤ℤ (smax k -ℤ smin k)) × ((smax k -ℤ smin k) ≤ℤ pos 4095)
+  bounds : (pos 1 ≤ℤ (smax k -ℤ smin k)) × ((smax k -ℤ smin k) ≤ℤ pos 8191)
   bounds =
       let is = c.prove_is_row.ensures.cube.bits in
-      let least : 2 ^ 2 ≤ 2 ^ k.bits = pow_mono is.0 in let most : 2 ^ k.bits ≤ 2 ^ 12 = pow_mono c.requires.bits in
+      let least : 2 ^ 2 ≤ 2 ^ k.bits = pow_mono is.0 in let most : 2 ^ k.bits ≤ 2 ^ 13 = pow_mono c.requires.bits in
       narrow (smax k -ℤ smin k) (2 ^ k.bits) powers least most
 
   fits : SFits w16 span_of

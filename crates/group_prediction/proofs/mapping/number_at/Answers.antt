@@ -7,11 +7,11 @@ use Rattle.group_prediction.proofs.mapping.number_at.Goals as goal
 use Rattle.group_prediction.proofs.mapping.number_at.Goals.{After-min}
 
 -- twice the error, less the parity, as the code computes it
-far_is : (g t h : ℤ) → pos 0 ≤ℤ t → t ≤ℤ (pos 2 *ℤ g +ℤ pos 1) → g ≤ℤ pos 4095 → pos 0 ≤ℤ h → h ≤ℤ g
+far_is : (g t h : ℤ) → pos 0 ≤ℤ t → t ≤ℤ (pos 2 *ℤ g +ℤ pos 1) → g ≤ℤ pos 8191 → pos 0 ≤ℤ h → h ≤ℤ g
     → to_z w16 (of_z w16 (to_z w16 (of_z w16 (pos 2 *ℤ to_z w16 (of_z w16 h))) -ℤ to_z w16 (of_z w16 t))) ≡ pos 2 *ℤ h -ℤ t
 far_is g t h a b d e f = omega (arith, ints)
 
-beyond_is : (a b : ℤ) → unsigned_abs a ≤ 8190 → unsigned_abs b ≤ 4095 → to_z w16 (of_z w16 (to_z w16 (of_z w16 a) +ℤ to_z w16 (of_z w16 b))) ≡ a +ℤ b
+beyond_is : (a b : ℤ) → unsigned_abs a ≤ 16382 → unsigned_abs b ≤ 4095 → to_z w16 (of_z w16 (to_z w16 (of_z w16 a) +ℤ to_z w16 (of_z w16 b))) ≡ a +ℤ b
 beyond_is a b h k = omega (arith, ints)
 
 pub overflow_sub-offset : goal.overflow_sub-offset

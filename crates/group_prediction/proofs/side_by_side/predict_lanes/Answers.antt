@@ -86,6 +86,7 @@ follow_band-requires g c =
       inside = rw (← next.shape) next.inside;
       later = later;
       narrow = rw (told.0, ← next.kind) c.requires.ready.narrow;
+      shallow = λ e. rw (← bits) (c.requires.shallow e);
       below = rw (← bits) (below g d v);
       weights_in = rw told.0 (weights_in g d v);
     }

@@ -3,19 +3,19 @@ use Rattle.band_lanes.specs.Rows.{weights_of}
 use Rattle.sample_prediction.specs.Bounds.{AllWithin}
 use Rattle.predict_core.specs.RunChains.{AreStepsThere}
 use Rattle.group_prediction.proofs.GroupLanes.{lane_first}
-use Rattle.predict_core.proofs.LanePlaces.{exponent_least, exponent_most}
+use Rattle.predict_core.proofs.LanePlaces.{exponent_fits_least, exponent_fits_most}
 use Rattle.predict_core.proofs.Runs.{piece_exponent}
 use Rattle.group_prediction.proofs.steps.follow_piece.Goals as goal
 
 pub new-step-requires-clause-least : goal.new-step-requires-clause-least
 new-step-requires-clause-least g c =
     let s = c.args.settings.now in let fits : SFits w32 c.exponent_at.result = search rules in
-    rw (to_z-of_z fits, c.exponent_at.ensures.value) (exponent_least s.predictor s.columns s.range.bits _ s.lawful.order c.requires.narrow)
+    rw (to_z-of_z fits, c.exponent_at.ensures.value) (exponent_fits_least s.predictor s.columns s.range.bits _ s.lawful.order c.requires.narrow)
 
 pub new-step-requires-clause-most : goal.new-step-requires-clause-most
 new-step-requires-clause-most g c =
     let s = c.args.settings.now in let fits : SFits w32 c.exponent_at.result = search rules in
-    rw (to_z-of_z fits, c.exponent_at.ensures.value) (exponent_most s.predictor s.columns s.range.bits _ s.lawful.order c.requires.narrow)
+    rw (to_z-of_z fits, c.exponent_at.ensures.value) (exponent_fits_most s.predictor s.columns s.range.bits _ s.lawful.order c.requires.narrow)
 
 pub loop-at-preserved : goal.loop-at-preserved
 loop-at-preserved g c =

@@ -10,7 +10,7 @@ use Rattle.predict_core.proofs.narrow_offsets.scaled_offset.Goals.{After-max}
 one_more : (u t : ℤ) → SFits w16 t → t ≤ℤ (pos 2 *ℤ u +ℤ pos 1) → (pos 2 *ℤ u) ≤ℤ t → to_z w16 (of_z w16 (to_z w16 (of_z w16 u) +ℤ pos 1)) ≡ u +ℤ pos 1
 one_more u t f h k = let g = f.sfits in omega (arith, ints, g, h, k)
 
-top_is : (g : ℤ) → pos 1 ≤ℤ g → g ≤ℤ pos 4095 → to_z w16 (of_z w16 (to_z w16 (of_z w16 (pos 2 *ℤ to_z w16 (of_z w16 g))) +ℤ pos 1)) ≡ pos 2 *ℤ g +ℤ pos 1
+top_is : (g : ℤ) → pos 1 ≤ℤ g → g ≤ℤ pos 8191 → to_z w16 (of_z w16 (to_z w16 (of_z w16 (pos 2 *ℤ to_z w16 (of_z w16 g))) +ℤ pos 1)) ≡ pos 2 *ℤ g +ℤ pos 1
 top_is g h k = omega (arith, ints)
 
 limited : (u g : ℤ) → pos 1 ≤ℤ g → int_max (int_min (u +ℤ pos 1) (pos 2 *ℤ g +ℤ pos 1)) (pos 0) ≡ clip (u +ℤ pos 1) (pos 0) (pos 2 *ℤ g +ℤ pos 1)

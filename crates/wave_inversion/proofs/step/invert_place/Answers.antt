@@ -104,7 +104,7 @@ returns-clause-stepped g c =
       long = length-map pairs (λ (q : Pairs). row_at q 0) ∙ long;
       even = λ j b m l. ap (λ (row : List ℤ). lane row (2 * b)) (at j m) ∙ c.put_components.ensures.even j b m l;
       odd = λ j b m l. ap (λ (row : List ℤ). lane row (2 * b + 1)) (at j m) ∙ c.put_components.ensures.odd j b m l;
-      predicted = λ b l. inr (c.args.form.step.bits_in, rw (← components_at g.row.Q b 0 pairs) (c.predict_place-parts.ensures b l));
+      predicted = λ b l. inr ((let h = c.args.form.step.bits_in in omega (arith, h)), rw (← components_at g.row.Q b 0 pairs) (c.predict_place-parts.ensures b l));
       number = λ b l. rw offsets (found.value b l ∙ rw (sum_is g d b l) refl);
       central = λ b l. rw (offsets, central) (c.differences-central.ensures b l ∙ rw (sum_is g d b l) refl);
       updated = λ b l. rw (central, ← components_at g.row.Q b 0 pairs) (c.update_all.ensures b l);

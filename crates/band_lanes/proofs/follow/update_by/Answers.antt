@@ -6,7 +6,7 @@ use Rattle.sample_prediction.specs.Weights.{updated_weight, updated_weights}
 use Rattle.band_lanes.specs.Rows.{row_at, no_pairs, weights_of, components_of}
 use Rattle.band_lanes.specs.Updates.{updated_lane}
 use Rattle.band_lanes.proofs.Rows.{pair_is, updates_more, updates_none}
-use Rattle.band_lanes.proofs.follow.update_all.Goals as goal
+use Rattle.band_lanes.proofs.follow.update_by.Goals as goal
 
 pub updated-row-requires-clause-small : goal.updated-row-requires-clause-small
 updated-row-requires-clause-small g c k l = c.requires.below c.loop-c.c k (let t = c.loop-c-test.true in let f = c.requires.few in omega arith) l

@@ -2,7 +2,7 @@ use Rattle.std.proofs.Common.{◌≡◌, ◌<◌, ◌≤◌, ℕ, int_le, length
 use Rattle.lanes.specs.Lanes.{lane}
 use Rattle.sample_prediction.specs.Weights.{updated_weights}
 use Rattle.band_lanes.specs.Rows.{weights_of, components_of}
-use Rattle.band_lanes.proofs.follow.update_all.Given as goal
+use Rattle.band_lanes.proofs.follow.update_by.Given as goal
 
 abbrev pub invariant-loop-c : goal.invariant-loop-c
 invariant-loop-c g l = record {
