@@ -35,8 +35,8 @@ def encode(
     `"bip"`; a buffer of one dimension needs `columns`, `rows` and `bands`. Plain bytes of two for each sample need `byteorder`.
 
     Samples that lie as they are coded are read once, row by row: with `order="bi"` and `interleave` `"bil"` or `"bip"`, and band sequential in both where
-    there are at least twice `previous` + 8 bands. A scene that is mapped (`mmap`, `numpy.memmap`) then isn't loaded: what is kept beside the file is
-    a row, or `previous` + 8 planes of two bytes a sample. Else all samples are, two bytes each.
+    there are more than `previous` + 8 bands, or of less than 256 columns three times as many. A scene that is mapped (`mmap`, `numpy.memmap`) then isn't
+    loaded: what is kept beside the file is a row, or `previous` + 8 planes of two bytes a sample. Else all samples are, two bytes each.
 
     `bits` are all bits of a sample unless given. `options` are further members of Params; or `params` has all of them, and the sizes.
     Raises Fault where parameters or samples are refused.

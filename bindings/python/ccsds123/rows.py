@@ -20,6 +20,8 @@ AT_ONCE = 1 << 24
 
 KEPT_PLANES = 8
 """The planes that are kept of a band sequential scene, beside those of the bands that a band is predicted from."""
+FEWEST_COLUMNS = 256
+"""The columns from which on rows aren't short: with shorter ones it takes longer to code row by row."""
 
 
 class RowEncoder:
@@ -119,10 +121,10 @@ def items(size: int, signed: bool, byteorder: str) -> str:
 
 
 def goes_by_rows(params: Params, interleave: str) -> bool:
-    """Returns whether a scene is coded row by row: where order and layout both interleave the bands, or neither does and what is kept is at most a third of
-    its planes."""
+    """Returns whether a scene is coded row by row: where order and layout both interleave the bands, or neither does and fewer planes are kept than it has,
+    or at most a third where its rows are short."""
     if params.order == "bsq" and interleave == "bsq":
-        return 3 * (params.previous + KEPT_PLANES) <= params.bands
+        return params.previous + KEPT_PLANES <= (params.bands // 3 if params.columns < FEWEST_COLUMNS else params.bands - 1)
     return params.order != "bsq" and interleave != "bsq"
 
 

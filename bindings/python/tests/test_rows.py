@@ -14,6 +14,8 @@ from ccsds123.rows import goes_by_rows
 SIZES = {"columns": 5, "rows": 4, "bands": 3, "bits": 12}
 MANY = {**SIZES, "bands": 40}
 """With the default of three previous bands, `encode` takes as many bands row by row."""
+WIDE = {**SIZES, "columns": 256, "bands": 12}
+"""So it does with these, since the rows are longer."""
 
 
 def whole_file(depth, **options):
@@ -113,10 +115,15 @@ class Rows(FolderTest):
             file = ccsds123.encode(mapped, byteorder=sys.byteorder, **MANY)
         self.assertEqual(file, sequential_file(MANY))
 
+    def test_wide_scene_has_the_same_file(self):
+        given = ccsds123.encode(samples_of(256, 4, 12), **WIDE)
+        self.assertEqual(given, ccsds123.encode(samples_of(256, 4, 12, "bil"), **WIDE, interleave="bil"))
+
     def test_what_goes_by_rows(self):
         for sizes, options, interleave, wanted in (
             (SIZES, {"order": "bi"}, "bil", True), (SIZES, {"order": "bi"}, "bip", True), (MANY, {"order": "bi"}, "bsq", False), (MANY, {}, "bil", False),
             (SIZES, {}, "bsq", False), (MANY, {}, "bsq", True), (MANY, {"previous": 5}, "bsq", True), (MANY, {"previous": 6}, "bsq", False),
+            (WIDE, {}, "bsq", True), (WIDE, {"previous": 4}, "bsq", False), ({**WIDE, "bands": 11}, {}, "bsq", False), ({**WIDE, "columns": 255}, {}, "bsq", False),
         ):
             self.assertEqual(goes_by_rows(ccsds123.Params(**sizes, **options), interleave), wanted)
 

@@ -37,6 +37,10 @@ const PLANES: u64 = 8;
 /// The most samples in the planes that are kept.
 const MOST_PLANE_SAMPLES: u64 = 1 << 28;
 
+/// The fewest columns of an image of which any number of planes is kept. Each row of a band is read and copied on its own, which takes
+/// long where rows are short.
+const FEWEST_COLUMNS: u32 = 256;
+
 /// Returns whether an image is coded while it is read: its raw bytes bring the rows that its order codes, one after another, and what
 /// is kept is less than the image.
 pub(crate) fn goes_by_rows(settings: &CompressSettings) -> bool
@@ -57,18 +61,22 @@ fn has_short_rows(params: &Params) -> bool {
     shape.rows() >= FEWEST_ROWS && row <= MOST_SAMPLES
 }
 
-/// Returns whether the planes that are kept in band-sequential order are at most a third of the image, and not too much.
+/// Returns whether the planes that are kept in band-sequential order are fewer than those of the image, or with short rows at most a
+/// third of them; and not too much.
 fn has_few_planes(params: &Params) -> bool {
     let shape = params.shape;
     let kept = u64::from(params.previous) + PLANES;
     let plane = u64::from(shape.rows()) * u64::from(shape.columns());
-    3 * kept <= u64::from(shape.bands()) && kept * plane <= MOST_PLANE_SAMPLES
+    let bands = u64::from(shape.bands());
+    let most = if shape.columns() < FEWEST_COLUMNS {
+        bands / 3
+    } else {
+        bands - 1
+    };
+    kept <= most && kept * plane <= MOST_PLANE_SAMPLES
 }
 
 /// Returns the file of the cube whose raw bytes the source has. Beside the file, it keeps the rows, or the planes, that prediction reads.
-///
-/// It isn't inlined: an encoder of rows stands on the stack, which no other command should need.
-#[inline(never)]
 pub(crate) fn file_by_rows<S: Source>(
     alloc: Global,
     source: &mut S,

@@ -31,6 +31,7 @@ pub(crate) fn turn_planes(
     previous: &mut [u16],
     present: &mut Vec<u16>,
     above: &mut Vec<u16>,
+    group: &mut GroupRoom,
 )
     requires lawful { IsLawful params.now }
     requires inside { first + length bands.old ≤ params.now.shape.bands }
@@ -60,7 +61,6 @@ pub(crate) fn turn_planes(
     let count = bands.len();
     let least = (first + count).saturating_sub(params.previous as usize);
     let many = first + count - least;
-    let mut group = GroupRoom::new();
     let mut handed = HandedRows::none();
     for y in 0..shape.rows() {
         next_lines(params, first, y, planes, count, previous, present, above);
@@ -73,7 +73,7 @@ pub(crate) fn turn_planes(
             plane,
             bands,
             planes,
-            &mut group,
+            group,
         );
         keep_lines(params, least, y, &present[..], many, previous);
     }

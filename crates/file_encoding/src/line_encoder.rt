@@ -34,10 +34,16 @@ pub struct LineEncoder {
     y: u32,
     above: Vec<u16>,
     bands: Vec<Band>,
-    group: GroupRoom,
-    room: [u16; ROOM],
+    rooms: Box<LineRooms>,
     end: FileEncoder,
     handed: HandedRows,
+}
+
+/// Room for what is computed of a row. It is on the heap, so that an encoder is moved without it.
+#[derive(Clone, Copy)]
+struct LineRooms {
+    group: GroupRoom,
+    lines: [u16; ROOM],
 }
 
 impl Model for LineEncoder {
@@ -51,7 +57,8 @@ impl Model for LineEncoder {
 impl LineEncoder {
     /// Returns the encoder of an image with lawful parameters, in an interleaved order. It has been handed no row.
     ///
-    /// Returns `WantOfMemory` if the header, the row above, or the state of the predictors or of the coder can't be allocated.
+    /// Returns `WantOfMemory` if the header, the row above, the rooms, or the state of the predictors or of the coder can't be
+    /// allocated.
     pub fn new(alloc: Global, params: &Params) -> Result<LineEncoder, Fault>
         requires lawful { IsLawful params.now }
         requires order { IsInterleaved params.now.order }
@@ -64,12 +71,15 @@ impl LineEncoder {
         let end = FileEncoder::new(alloc, params)?;
         let size = shape.bands() as usize * shape.columns() as usize;
         let above = vec![in alloc; 0u16; size]?;
+        let rooms = LineRooms {
+            group: GroupRoom::new(),
+            lines: [0; ROOM],
+        };
         Ok(LineEncoder {
             y: 0,
             above,
             bands,
-            group: GroupRoom::new(),
-            room: [0; ROOM],
+            rooms: Box::new(alloc, rooms)?,
             end,
             handed: HandedRows::none(),
         })
@@ -109,8 +119,7 @@ impl LineEncoder {
             params,
             depth,
             &mut self.bands,
-            &mut self.room,
-            &mut self.group,
+            &mut self.rooms,
             &mut self.end,
         ) {
             return Err(Fault::WantOfMemory);
@@ -132,8 +141,7 @@ impl LineEncoder {
             y: _,
             above: _,
             bands: _,
-            group: _,
-            room: _,
+            rooms: _,
             end,
             handed: _,
         } = self;
@@ -147,8 +155,7 @@ fn send_all_bands(
     params: &Params,
     depth: u32,
     bands: &mut [Band],
-    room: &mut [u16; ROOM],
-    group: &mut GroupRoom,
+    rooms: &mut LineRooms,
     end: &mut FileEncoder,
 ) -> bool
     requires image { IsSeen params.now rows.now.image }
@@ -162,8 +169,8 @@ fn send_all_bands(
     ensures same { bands_of bands.new ≡ bands_of bands.old }
 {
     if depth == 1 {
-        send_each_row(rows, params, bands, room, group, end)
+        send_each_row(rows, params, bands, &mut rooms.lines, &mut rooms.group, end)
     } else {
-        send_line(rows, params, 0, &[], depth, bands, group, end)
+        send_line(rows, params, 0, &[], depth, bands, &mut rooms.group, end)
     }
 }

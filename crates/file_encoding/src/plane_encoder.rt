@@ -12,6 +12,7 @@ use crate::file_encoder::FileEncoder;
 use crate::kept_planes::turn_planes;
 use crate::pieces::GROUP;
 use cube_core::fault::Fault;
+use group_prediction::room::GroupRoom;
 use header_bits::params::Params;
 use predict_core::band::Band;
 use predict_core::bands::all_bands;
@@ -33,6 +34,8 @@ pub struct PlaneEncoder {
     present: Vec<u16>,
     above: Vec<u16>,
     bands: Vec<Band>,
+    /// It is on the heap, so that an encoder is moved without it.
+    group: Box<GroupRoom>,
     end: FileEncoder,
     /// The rows so far, one after another, each of one band.
     handed: HandedRows,
@@ -49,8 +52,8 @@ impl Model for PlaneEncoder {
 impl PlaneEncoder {
     /// Returns the encoder of an image with lawful parameters, in band-sequential order. It has been handed no row.
     ///
-    /// Returns `WantOfMemory` if the header, the planes that it keeps, or the state of the predictors or of the coder can't be
-    /// allocated.
+    /// Returns `WantOfMemory` if the header, the planes that it keeps, the room of a group, or the state of the predictors or of the
+    /// coder can't be allocated.
     pub fn new(alloc: Global, params: &Params) -> Result<PlaneEncoder, Fault>
         requires lawful { IsLawful params.now }
         requires order { params.now.order ≡ Bsq }
@@ -77,6 +80,7 @@ impl PlaneEncoder {
             present,
             above,
             bands,
+            group: Box::new(alloc, GroupRoom::new())?,
             end,
             handed: HandedRows::none(),
         })
@@ -120,6 +124,7 @@ impl PlaneEncoder {
             present: _,
             above: _,
             bands: _,
+            group: _,
             end,
             handed: _,
         } = self;
@@ -170,6 +175,7 @@ impl PlaneEncoder {
             &mut self.previous,
             &mut self.present,
             &mut self.above,
+            &mut self.group,
         );
         let sent = (next - self.first) as usize * plane;
         self.end.put_all(&self.planes[..sent])?;

@@ -1,5 +1,6 @@
 //! Tests of band sequential scenes that are coded while they are read, a row of one band at a time.
 
+ghost use Rattle.std.specs.Prelude.{◌<◌, ◌≤◌};
 ghost use Rattle.cube_core.specs.Layout.{IsLayout};
 
 use super::support::{ONE_BYTE, file_of};
@@ -18,6 +19,9 @@ const COUNT: usize = 688;
 
 /// Numbers of previous bands with which the scene is coded while it is read: at most 6 + 8 planes are kept, and these are no more than a third of 43.
 const PREVIOUS: [u32; 4] = [0, 1, 3, 6];
+
+/// The number of samples of a wide scene of twelve bands. It has 256 columns and eight rows, so that all planes but one may be kept.
+const WIDE_COUNT: usize = 24576;
 
 /// Returns the sample of band `z` at row `y`, column `x`: seven bits, which grow along each axis.
 fn sample(z: usize, y: usize, x: usize) -> u8 {
@@ -38,11 +42,40 @@ fn raw(order: RawOrder) -> [u8; COUNT] {
     bytes
 }
 
+/// Returns raw bytes, one a sample, that begin with those of a wide scene of so many bands: line after line, or else band after band. The
+/// samples of each half of a row are equal.
+fn wide(order: RawOrder, bands: usize) -> [u8; WIDE_COUNT]
+    requires { 0 < bands }
+{
+    let mut bytes = [0; WIDE_COUNT];
+    for at in 0..WIDE_COUNT {
+        let (line, x) = (at / 256, at / 128);
+        bytes[at] = match order {
+            RawOrder::Bil => sample(line % bands, line / bands, x),
+            _ => sample(line / 8, line % 8, x),
+        };
+    }
+    bytes
+}
+
 /// Returns the scene's settings. The order is band sequential.
 fn settings_of(rt: &impl Abort, order: RawOrder, previous: u32) -> CompressSettings
     ensures { IsLayout result.layout }
 {
-    let shape = Shape::new(2, 8, 43).expect(rt, "a shape");
+    settings_with(rt, order, 2, 43, previous)
+}
+
+/// Returns the settings of a scene of eight rows. The order is band sequential.
+fn settings_with(
+    rt: &impl Abort,
+    order: RawOrder,
+    columns: u32,
+    bands: u32,
+    previous: u32,
+) -> CompressSettings
+    ensures { IsLayout result.layout }
+{
+    let shape = Shape::new(columns, 8, bands).expect(rt, "a shape");
     let kind = Kind::new(false, 7).expect(rt, "a kind");
     CompressSettings {
         params: Params {
@@ -80,6 +113,40 @@ fn planes_have_the_file_of_the_cube(rt: HostRuntime) {
             );
             same(&rt, found.as_slice(), file.as_slice());
         }
+    }
+}
+
+/// Asserts that a wide scene has one file, whichever way its raw bytes come.
+fn has_one_file(rt: &impl Abort, alloc: Global, bands: usize, previous: u32)
+    requires { (0 < bands) × (bands ≤ 12) }
+{
+    let lines = settings_with(rt, RawOrder::Bil, 256, bands as u32, previous);
+    let file = file_of(
+        rt,
+        alloc,
+        &lines,
+        &wide(RawOrder::Bil, bands)[..2048 * bands],
+        1000,
+        None,
+    )
+    .expect(rt, "no refusal");
+    let planes = settings_with(rt, RawOrder::Bsq, 256, bands as u32, previous);
+    let found = file_of(
+        rt,
+        alloc,
+        &planes,
+        &wide(RawOrder::Bsq, bands)[..2048 * bands],
+        1000,
+        None,
+    )
+    .expect(rt, "no refusal");
+    same(rt, found.as_slice(), file.as_slice());
+}
+
+#[test]
+fn planes_of_all_bands_but_one_have_the_file_of_the_cube(rt: HostRuntime) {
+    for previous in 0..4u32 {
+        has_one_file(&rt, rt.alloc(), previous as usize + 9, previous);
     }
 }
 

@@ -20,7 +20,7 @@ use std::process::Abort;
 const ROOM: usize = 1000;
 
 /// The room of a sink for the files of the longest scenes here.
-const FILE_ROOM: usize = 4000;
+const FILE_ROOM: usize = 32000;
 
 /// The layout of samples of one byte, band after band.
 pub(crate) const ONE_BYTE: Layout = Layout {

@@ -7,9 +7,9 @@ use Rattle.file_encoding.specs.Walks.{bands_of}
 use Rattle.file_encoding.specs.ByLines.{LineEncoderState, image_by_lines}
 use Rattle.file_encoding.proofs.LineSteps.{at_given, image_given, may_given, next_under, own_given, row_given}
 use Rattle.file_encoding.proofs.line_encoder.LineEncoder.row.Goals as goal
-use Rattle.file_encoding.proofs.line_encoder.LineEncoder.row.Goals.{After-send_all_bands-arg-3-1, then-self-eq0, else-self-eq0}
+use Rattle.file_encoding.proofs.line_encoder.LineEncoder.row.Goals.{After-send_all_bands-arg-1, then-self-eq0, else-self-eq0}
 
-module _ (c : After-send_all_bands-arg-3-1) where
+module _ (c : After-send_all_bands-arg-1) where
   abbrev p : Params
   p = c.args.params.now
 
@@ -73,7 +73,7 @@ send_all_bands-requires-clause-may c =
 
 pub returns-clause-under_way : goal.returns-clause-under_way
 returns-clause-under_way c =
-    let d = (goal.at.returns-clause-under_way c).After-send_all_bands-arg-3-1 in
+    let d = (goal.at.returns-clause-under_way c).After-send_all_bands-arg-1 in
     let kept : (with_items c.if-self-eq0.self-inside.bands c.send_all_bands.new.bands).items ≡ c.send_all_bands.new.bands =
     with_items_is c.if-self-eq0.self-inside.bands c.send_all_bands.new.bands (omega (arith, c.send_all_bands.auto.bands, c.deref_mut.ensures.len)) in
     next_under _ _ _ c.requires.under_way c.requires.more c.requires.size c.requires.range _ (rows_are d) _ _ _ (end_is d) c.in-Bi.is
