@@ -35,7 +35,7 @@ whole_far columns origin last some inside more all later = elim (cases_lt 0 orig
   | inr none ↦ (let far = all (omega (arith, none)) in omega (arith, some, none, far))
 ]
 
--- a lane that has come to the last column
+-- a lane that has come to the end of the row
 pub ends_there : (columns origin last b : ℕ) → b < ended columns origin last → origin + 2 ≤ columns → b < 8
     → column_at origin (last - ended columns origin last + b) b ≡ end_column columns origin last b
 ends_there columns origin last b h some few = omega (arith, h, some, few)
@@ -47,12 +47,12 @@ ends_before columns origin last b h some = omega (arith, h, some)
 -- what is found in step `last`
 module _ {q : ℕ} {p : Params} {s : ℕ → Settings} {d : Image} {first y origin last columns : ℕ} {numbers own weights : List (List ℤ)}
     (now : AreInStep q p s d first y origin last 8 last numbers own weights) (same : columns ≡ d.shape.columns) where
-  pub offsets_found : (b i : ℕ) → b < 8 → first_step origin b ≤ i → i < last → column_at origin i b + 1 < columns
+  pub offsets_found : (b i : ℕ) → b < 8 → first_step origin b ≤ i → i < last → column_at origin i b < columns
       → place numbers i b ≡ pos (number_at d (first + b) y (column_at origin i b))
   offsets_found b i fits low high right = now.offsets i b (omega (arith, low)) high fits (omega (arith, low)) (omega (arith, right, same))
 
   pub weights_found : (ends : ℕ → List (List ℤ)) (b n : ℕ) → b < 8 → origin + 2 ≤ columns → (s b).count ≡ n
-      → (b < last - (last - ended columns origin last) → column_at origin (last - ended columns origin last + b) b < d.shape.columns
+      → (b < last - (last - ended columns origin last) → column_at origin (last - ended columns origin last + b) b ≤ d.shape.columns
       → AreWeightsAt p (s b).predictor d (first + b) (y * d.shape.columns + column_at origin (last - ended columns origin last + b) b)
       (take (s b).count (weights_of q b (ends b))))
       → take n (weights_of q b (rows_at_end (ended columns origin last) ends weights b))

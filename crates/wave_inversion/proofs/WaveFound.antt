@@ -49,7 +49,7 @@ module _ {q : ℕ} {f : WaveForm} {c : Image} {bands : List PredictorState} {fir
       → AreInStep q p settings d first y origin last 8 last far_numbers far_own far_weights)
       → ((p : Params) (d : Image) → AreLanes q f p settings d first y origin last above lower → 15 ≤ origin + (last - lanes)
       → AreInStep q p settings d first y origin last 8 (last - lanes) near_numbers near_own near_weights
-      → (b : ℕ) → b < last - (last - lanes) → column_at origin (last - lanes + b) b < d.shape.columns
+      → (b : ℕ) → b < last - (last - lanes) → column_at origin (last - lanes + b) b ≤ d.shape.columns
       → AreWeightsAt p (settings b).predictor d (first + b) (y * d.shape.columns + column_at origin (last - lanes + b) b)
       (take (settings b).count (weights_of q b (ends b))))
       → AreOffsetRows f.greatest far_numbers

@@ -40,10 +40,10 @@ use Rattle.wave_inversion.proofs.WaveOffsets.{sum_told, central_told, directions
 
 -- ---- a component of a lane
 
--- the place of a lane that has begun, in a step up to its last column but one
+-- the place of a lane that has begun, in a step up to its last column
 module _ {q : ℕ} {f : WaveForm} {p : Params} {s : ℕ → Settings} {d : Image} {first y origin last n : ℕ} {above lower numbers own weights : List (List ℤ)}
     (lanes : AreLanes q f p s d first y origin last above lower) (k : ℕ) (step : (8 ≤ k) × (k < last)) (begun : (n ≤ 8) × (n + 7 ≤ origin + k))
-    (now : AreInStep q p s d first y origin last n k numbers own weights) (b : ℕ) (mine : b < n) (right : column_at origin k b + 1 < d.shape.columns) where
+    (now : AreInStep q p s d first y origin last n k numbers own weights) (b : ℕ) (mine : b < n) (right : column_at origin k b < d.shape.columns) where
   abbrev x : ℕ
   x = column_at origin k b
 
@@ -57,7 +57,7 @@ module _ {q : ℕ} {f : WaveForm} {p : Params} {s : ℕ → Settings} {d : Image
   left = omega (arith, mine, begun.1)
 
   there : IsPlace d.shape z y x
-  there = record { band = (lanes.bands b fits).1; row = lanes.row.1; column = omega (arith, right) }
+  there = record { band = (lanes.bands b fits).1; row = lanes.row.1; column = right }
 
   band : (s b).band ≡ z
   band = (lanes.bands b fits).0
@@ -107,12 +107,14 @@ module _ {q : ℕ} {f : WaveForm} {p : Params} {s : ℕ → Settings} {d : Image
 
   north_west_is : place above (k - 1) b ≡ pos (number_at d z (y - 1) (column_at origin (k - 1) b))
   north_west_is = lanes.north (k - 1) b (omega (arith, step.1)) fits (omega (arith, left, step.0)) (omega (arith, left, right, step.0))
+      ∙ ap (λ (n : ℕ). pos (number_at d z (y - 1) n)) (omega (arith, left, right, step.0))
 
   north_is : place above k b ≡ pos (number_at d z (y - 1) x)
   north_is = lanes.north k b (omega (arith, step.1)) fits (omega (arith, left)) (omega (arith, right))
+      ∙ ap (λ (n : ℕ). pos (number_at d z (y - 1) n)) (omega (arith, right))
 
   -- the local sum of offsets
-  sum_is : sum_at f.column numbers above k b ≡ offset_sum (s b).predictor d lanes.cube z y x there lanes.row.0 left right
+  sum_is : sum_at f.column numbers above k b ≡ offset_sum (s b).predictor d lanes.cube z y x there lanes.row.0 left
   sum_is =
       let w = west_is in let nw = north_west_is in let n = north_is in
       let ne = lanes.north (k + 1) b (omega (arith, step.1)) fits (omega (arith, left)) (omega (arith, left, right)) in
@@ -143,7 +145,7 @@ module _ {q : ℕ} {f : WaveForm} {p : Params} {s : ℕ → Settings} {d : Image
           (let from : first_of f.reduced ≡ 3 = ap first_of r in let low : index < 3 = omega (arith, from, h) in
           direction_is index low (rw (sum_is, north_is) at north) (rw (sum_is, west_is, before) at west) (rw (sum_is, north_west_is, before) at north_west)
           ∙ sym (direction_at (s b).predictor d z y x index (reduced_is false r) low
-          ∙ ap (λ (us : List ℤ). get_or us index (pos 0)) (directions_told (s b).predictor d lanes.cube z y x there lanes.row.0 left right)))
+          ∙ ap (λ (us : List ℤ). get_or us index (pos 0)) (directions_told (s b).predictor d lanes.cube z y x there lanes.row.0 left)))
     ]
       where
         direction_is : (index : ℕ) → index < 3 → {u v w : ℤ} → place directions 0 b ≡ u → place directions 1 b ≡ v → place directions 2 b ≡ w
@@ -233,14 +235,14 @@ module _ {q : ℕ} {f : WaveForm} {p : Params} {s : ℕ → Settings} {d : Image
 
     offset_is : place numbers' k b ≡ pos (number_at d z y x)
     offset_is =
-        let told = sum_told (s b).predictor d lanes.cube z y x there lanes.row.0 left right in
+        let told = sum_told (s b).predictor d lanes.cube z y x there lanes.row.0 left in
         stepped.number b fits ∙ ap (offset_by f.greatest part (sum_at f.column numbers above k b)) (now.residuals k b (omega arith) step.1 fits left right)
         ∙ offset_found d z y x f.greatest part (sum_at f.column numbers above k b) whole (mapped_residual p d z t) lanes.cube there lanes.greatest
         (rw sum_is (sym told)) number_told
 
     central_is : place own' k b ≡ central
     central_is =
-        stepped.central b fits ∙ rw (offset_is, sum_is) (sym (central_told (s b).predictor d lanes.cube z y x there lanes.row.0 left right))
+        stepped.central b fits ∙ rw (offset_is, sum_is) (sym (central_told (s b).predictor d lanes.cube z y x there lanes.row.0 left))
 
     weights_next : take (s b).count (weights_of q b weights') ≡ weight_vector p d z (t + 1)
     weights_next =
@@ -271,7 +273,7 @@ step_more {q} {f} {p} {s} {d} {first} {y} {origin} {last} {n} {k} {numbers = num
   ];
   weights_at = λ b mine bound.
       let next : column_at origin (k + 1) b ≡ column_at origin k b + 1 = omega (arith, mine, begun.1) in
-      let right : column_at origin k b + 1 < d.shape.columns = omega (arith, next, bound) in record {
+      let right : column_at origin k b < d.shape.columns = omega (arith, next, bound) in record {
         predictor = (now.weights_at b mine (omega (arith, right))).predictor;
         weights = weights_next lanes k step begun now b mine right stepped near long (within b (omega (arith, mine, begun.0)))
             ∙ ap (weight_vector p d (first + b)) (next_time (y * d.shape.columns) b next);

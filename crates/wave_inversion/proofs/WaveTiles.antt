@@ -24,7 +24,7 @@ use Rattle.wave_inversion.specs.Inversion.{IsInverting, IsBandInverted, AreAhead
 use Rattle.predict_core.specs.Offsets.{number_at}
 use Rattle.wave_inversion.specs.Wave.{sum_by}
 use Rattle.wave_inversion.specs.WaveForms.{WaveForm}
-use Rattle.wave_inversion.specs.WaveLanes.{AreLanes, AreInStep, AreToBegin, column_at, first_column}
+use Rattle.wave_inversion.specs.WaveLanes.{AreLanes, AreInStep, AreToBegin, column_at, column_within, first_column}
 use Rattle.wave_inversion.specs.WaveRows.{AreFilled}
 use Rattle.wave_inversion.specs.WaveTiles.{IsFormOf, StandAsWave}
 use Rattle.wave_inversion.proofs.WaveForms.{constants_at}
@@ -111,35 +111,39 @@ module _ {q : ℕ} {f : WaveForm} {c : Image} {bands : List PredictorState} {fir
 
   own_number : (i b : ℕ) → i < 64 → b < 8 → 7 + b ≤ origin + i → column_at origin i b < c.shape.columns
       → place numbers i b ≡ pos (number_at c (first + b) y (column_at origin i b))
-  own_number i b small fits low bound = let same : first + b - 0 ≡ first + b = omega arith in rw (none, same) at (k.filled.numbers_is.numbers i b small fits (omega arith) (omega arith) (omega (arith, low)) (rw none bound))
+  own_number i b small fits low bound =
+      let same : first + b - 0 ≡ first + b = omega arith in
+      rw (none, same) at (k.filled.numbers_is.numbers i b small fits (omega arith) (omega arith) (omega (arith, low)) (rw none (omega (arith, bound))))
+      ∙ ap (λ (n : ℕ). pos (number_at c (first + b) y n)) (omega (arith, bound))
 
-  above_number : (i b : ℕ) → i < 64 → b < 8 → 7 + b ≤ origin + i → column_at origin i b < c.shape.columns
-      → place above i b ≡ pos (number_at d (first + b) (y - 1) (column_at origin i b))
+  above_number : (i b : ℕ) → i < 64 → b < 8 → 7 + b ≤ origin + i → column_at origin i b ≤ c.shape.columns
+      → place above i b ≡ pos (number_at d (first + b) (y - 1) (column_within c.shape.columns (column_at origin i b)))
   above_number i b small fits low bound =
       let same : first + b - 0 ≡ first + b = omega arith in
       rw (none, same) at (k.filled.above_is.numbers i b small fits (omega arith) (omega arith) (omega (arith, low)) (rw none bound))
-      ∙ ap (λ (n : ℕ). pos n) (done_above (first + b) (column_at origin i b) (omega (arith, fits)) bound)
+      ∙ ap (λ (n : ℕ). pos n) (done_above (first + b) (column_within c.shape.columns (column_at origin i b)) (omega (arith, fits)) (omega (arith, k.inside)))
 
   place_of : (z x : ℕ) → z < first + 8 → x < c.shape.columns → IsPlace d.shape z y x
   place_of z x low fits = rw (← inv.alike.shape) (record { band = rw shape (omega (arith, low, k.eight, inv.many)); row = k.row.1; column = fits })
 
   -- the central differences of the bands themselves before step 8
-  own_central : (i b : ℕ) → b < i → i < 8 → b < 8 → 0 < column_at origin i b → column_at origin i b + 1 < c.shape.columns
+  own_central : (i b : ℕ) → b < i → i < 8 → b < 8 → 0 < column_at origin i b → column_at origin i b < c.shape.columns
       → place own i b ≡ central_difference base.predictor d (first + b) y (column_at origin i b)
   own_central i b low high fits left right =
       let x : ℕ = column_at origin i b in
       let before : column_at origin (i - 1) b ≡ x - 1 = omega (arith, low) in let after : column_at origin (i + 1) b ≡ x + 1 = omega (arith, left) in
-      let here = own_number i b (omega (arith, high)) fits (omega (arith, left)) (omega (arith, right))
+      let here = own_number i b (omega (arith, high)) fits (omega (arith, left)) right
       ∙ ap (λ (n : ℕ). pos n) (done_here b x fits (omega (arith, high, left))) in
       let west = own_number (i - 1) b (omega (arith, high)) fits (omega (arith, left, low)) (omega (arith, right, before))
       ∙ ap (λ (n : ℕ). pos n) (done_here b (column_at origin (i - 1) b) fits (omega (arith, high, left))) in
       let north_west = above_number (i - 1) b (omega (arith, high)) fits (omega (arith, left, low)) (omega (arith, right, before)) in
       let north = above_number i b (omega (arith, high)) fits (omega (arith, left)) (omega (arith, right)) in
       let north_east = above_number (i + 1) b (omega (arith, high)) fits (omega (arith, left)) (omega (arith, right, after)) in
+      let at : column_within c.shape.columns x ≡ x = omega (arith, right) in
+      let at_west : column_within c.shape.columns (x - 1) ≡ x - 1 = omega (arith, right) in
       k.filled.own_is i b (omega (arith, low)) high fits
-      ∙ rw (here, west, north_west, north, north_east, before, after, k.form.column, ← k.made)
-      (sym (central_told base.predictor d inv.cube.cube (first + b) y x (place_of (first + b) x (omega (arith, fits)) (omega (arith, right)))
-      k.row.0 left (omega (arith, right, columns))))
+      ∙ rw (here, west, north_west, north, north_east, before, after, at, at_west, columns, k.form.column, ← k.made)
+      (sym (central_told base.predictor d inv.cube.cube (first + b) y x (place_of (first + b) x (omega (arith, fits)) right) k.row.0 left))
 
   -- and those of the bands below
   module _ (i b : ℕ) (low : 1 ≤ i) (high : i < 63) (fits : b < 8) where
@@ -165,13 +169,13 @@ module _ {q : ℕ} {f : WaveForm} {c : Image} {bands : List PredictorState} {fir
         nothing true = refl
         nothing false = refl
 
-    lower_some : 8 ≤ f.previous + b → 8 ≤ first + b → 0 < x → x + 1 < c.shape.columns → place lower i b ≡ central_difference base.predictor d (first + b - 8) y x
+    lower_some : 8 ≤ f.previous + b → 8 ≤ first + b → 0 < x → x < c.shape.columns → place lower i b ≡ central_difference base.predictor d (first + b - 8) y x
     lower_some used some left right =
         let z : ℕ = first + b - 8 in
-        let number = λ (j : ℕ) (h : j < 64) (m : 7 + b ≤ origin + 8 + j) (l : column_at (origin + 8) j b < c.shape.columns). k.filled.lower_numbers_is.numbers j b h fits (omega (arith, used)) some m l
-        ∙ ap (λ (n : ℕ). pos n) (done_below z (column_at (origin + 8) j b) (omega (arith, some, fits)) l) in
-        let number_above = λ (j : ℕ) (h : j < 64) (m : 7 + b ≤ origin + 8 + j) (l : column_at (origin + 8) j b < c.shape.columns). k.filled.lower_above_is.numbers j b h fits (omega (arith, used)) some m l
-        ∙ ap (λ (n : ℕ). pos n) (done_above z (column_at (origin + 8) j b) (omega (arith, some, fits)) l) in
+        let number = λ (j : ℕ) (h : j < 64) (m : 7 + b ≤ origin + 8 + j) (l : column_at (origin + 8) j b ≤ c.shape.columns). k.filled.lower_numbers_is.numbers j b h fits (omega (arith, used)) some m l
+        ∙ ap (λ (n : ℕ). pos n) (done_below z (column_within c.shape.columns (column_at (origin + 8) j b)) (omega (arith, some, fits)) (omega (arith, k.inside))) in
+        let number_above = λ (j : ℕ) (h : j < 64) (m : 7 + b ≤ origin + 8 + j) (l : column_at (origin + 8) j b ≤ c.shape.columns). k.filled.lower_above_is.numbers j b h fits (omega (arith, used)) some m l
+        ∙ ap (λ (n : ℕ). pos n) (done_above z (column_within c.shape.columns (column_at (origin + 8) j b)) (omega (arith, some, fits)) (omega (arith, k.inside))) in
         let before : column_at (origin + 8) (i - 1) b ≡ x - 1 = omega (arith, low) in
         let after : column_at (origin + 8) (i + 1) b ≡ x + 1 = omega (arith, left) in
         let here = number i (omega (arith, high)) (omega (arith, left)) (omega (arith, right)) in
@@ -179,10 +183,11 @@ module _ {q : ℕ} {f : WaveForm} {c : Image} {bands : List PredictorState} {fir
         let north_west = number_above (i - 1) (omega (arith, high)) (omega (arith, left, low)) (omega (arith, right, before)) in
         let north = number_above i (omega (arith, high)) (omega (arith, left)) (omega (arith, right)) in
         let north_east = number_above (i + 1) (omega (arith, high)) (omega (arith, left)) (omega (arith, right, after)) in
+        let at : column_within c.shape.columns x ≡ x = omega (arith, right) in
+        let at_west : column_within c.shape.columns (x - 1) ≡ x - 1 = omega (arith, right) in
         k.filled.lower_is i b low high fits
-        ∙ rw (here, west, north_west, north, north_east, before, after, k.form.column, ← k.made)
-        (sym (central_told base.predictor d inv.cube.cube z y x (place_of z x (omega (arith, some, fits)) (omega (arith, right)))
-        k.row.0 left (omega (arith, right, columns))))
+        ∙ rw (here, west, north_west, north, north_east, before, after, at, at_west, columns, k.form.column, ← k.made)
+        (sym (central_told base.predictor d inv.cube.cube z y x (place_of z x (omega (arith, some, fits)) right) k.row.0 left))
 
   pub count_is : (b : ℕ) → b < 8 → component_count base.predictor (first + b) ≡ length (band_at bands (first + b)).weights
   count_is b fits = sym ((k.filled.has b fits).long ∙ ap₂ component_count (same_made b fits) (band b fits).band)
@@ -190,7 +195,7 @@ module _ {q : ℕ} {f : WaveForm} {c : Image} {bands : List PredictorState} {fir
   kind_is : d.kind ≡ base.range.kind
   kind_is = inv.cube.kind ∙ sym head.follows.made.kind ∙ sym k.of-kind
 
-  below_is : (i b : ℕ) → 1 ≤ i → i < last → b < 8 → 8 ≤ f.previous + b → 0 < column_at origin (i + 8) b → column_at origin (i + 8) b + 1 < d.shape.columns
+  below_is : (i b : ℕ) → 1 ≤ i → i < last → b < 8 → 8 ≤ f.previous + b → 0 < column_at origin (i + 8) b → column_at origin (i + 8) b < d.shape.columns
       → place lower i b ≡ (if nat_le 8 (first + b) then central_difference base.predictor d (first + b - 8) y (column_at origin (i + 8) b) else pos 0)
   below_is i b low high fits used left right = elim (cases_lt (first + b) 8) [
     | inl out ↦ lower_none i b low (omega (arith, high, k.steps)) fits out ∙ sym (test_no (first + b) _ _ out)
@@ -233,7 +238,7 @@ module _ {q : ℕ} {f : WaveForm} {c : Image} {bands : List PredictorState} {fir
       bits_are = k.form.bits ∙ ap (λ (n : SampleKind). n.bits) (inv.alike.kind ∙ kind_is) ∙ sym base.range.bits_is;
       exponent_is = exponent_is (column_at origin j b) (omega (arith, bound, columns));
     };
-    north = λ i b high fits left bound. above_number i b (omega (arith, high, k.steps)) fits left (omega (arith, bound, columns));
+    north = λ i b high fits left bound. rw columns at (above_number i b (omega (arith, high, k.steps)) fits left (omega (arith, bound, columns)));
     below = below_is;
   }
 

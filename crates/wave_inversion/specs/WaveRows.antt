@@ -9,30 +9,31 @@ use Rattle.wave_inversion.specs.Inversion.{band_at}
 use Rattle.predict_core.specs.Offsets.{number_at}
 use Rattle.wave_inversion.specs.Wave.{AreOffsetRows, AreRowsBelow, sum_at}
 use Rattle.wave_inversion.specs.WaveForms.{WaveForm}
-use Rattle.wave_inversion.specs.WaveLanes.{column_at}
+use Rattle.wave_inversion.specs.WaveLanes.{column_at, column_within}
 
 -- the number that the 16 bits of z are, read without a sign
 abbrev pub without_sign : ℤ → ℤ
 without_sign z = pos (cast_unsigned w16 z)
 
--- a line has the numbers of a row from column origin - back on; each of its 64 numbers is one of the row, or 0
+-- a line has the numbers of a row from column origin - back on, and after the last one this once more; each of its 64 numbers is one of the row, or 0
 pub record IsSkewed (row : List ℕ) (origin back : ℕ) (line : ℕ → ℤ) : Type 0 where
-  pub numbers : (i : ℕ) → i < 64 → back ≤ origin + i → origin + i - back < length row → line i ≡ pos (slice_index row (origin + i - back))
+  pub numbers : (i : ℕ) → i < 64 → back ≤ origin + i → origin + i - back ≤ length row
+      → line i ≡ pos (slice_index row (column_within (length row) (origin + i - back)))
   pub each : (i : ℕ) → i < 64
       → (line i ≡ pos 0) ⊎ ((x : ℕ) × (x < length row) × (line i ≡ pos (slice_index row x)))
 
--- line b of eight has at place i the offset at column origin + below + i - 7 - b of row y of the band so many below band first + b, or 0 where there is no such band;
--- lines before number `least` have numbers without meaning
+-- line b of eight has at place i the offset at column origin + below + i - 7 - b of row y of the band so many below band first + b, and after the last column that of
+-- the last one once more, or 0 where there is no such band; lines before number `least` have numbers without meaning
 pub record AreLinesOf (c : Image) (first below least y origin : ℕ) (lines : List (List ℤ)) : Type 0 where
-  pub numbers : (b i : ℕ) → b < 8 → i < 64 → least ≤ b → below ≤ first + b → 7 + b ≤ origin + below + i → column_at (origin + below) i b < c.shape.columns
-      → place lines b i ≡ pos (number_at c (first + b - below) y (column_at (origin + below) i b))
+  pub numbers : (b i : ℕ) → b < 8 → i < 64 → least ≤ b → below ≤ first + b → 7 + b ≤ origin + below + i → column_at (origin + below) i b ≤ c.shape.columns
+      → place lines b i ≡ pos (number_at c (first + b - below) y (column_within c.shape.columns (column_at (origin + below) i b)))
   pub none : (b i : ℕ) → b < 8 → i < 64 → first + b < below → place lines b i ≡ pos 0
 
--- row i of 64 has in lane b the offset at column origin + below + i - 7 - b of row y of the band so many below band first + b, or 0 where there is no such band;
--- in lanes before number `least` it has numbers without meaning
+-- row i of 64 has in lane b the offset at column origin + below + i - 7 - b of row y of the band so many below band first + b, and after the last column that of
+-- the last one once more, or 0 where there is no such band; in lanes before number `least` it has numbers without meaning
 pub record AreRowsOf (c : Image) (first below least y origin : ℕ) (rows : List (List ℤ)) : Type 0 where
-  pub numbers : (i b : ℕ) → i < 64 → b < 8 → least ≤ b → below ≤ first + b → 7 + b ≤ origin + below + i → column_at (origin + below) i b < c.shape.columns
-      → place rows i b ≡ pos (number_at c (first + b - below) y (column_at (origin + below) i b))
+  pub numbers : (i b : ℕ) → i < 64 → b < 8 → least ≤ b → below ≤ first + b → 7 + b ≤ origin + below + i → column_at (origin + below) i b ≤ c.shape.columns
+      → place rows i b ≡ pos (number_at c (first + b - below) y (column_within c.shape.columns (column_at (origin + below) i b)))
   pub none : (i b : ℕ) → i < 64 → b < 8 → first + b < below → place rows i b ≡ pos 0
 
 -- what a wavefront has before its first step: the offsets here and in the row above, the central differences of the bands and of those below them, and the weights

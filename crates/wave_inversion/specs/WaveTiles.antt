@@ -38,15 +38,15 @@ StandAsWave bands first columns y origin = (b : ℕ) → b < 8 → (band_at band
 abbrev pub StandInRow : List PredictorState → ℕ → ℕ → ℕ → Type 0
 StandInRow bands first columns y = (b : ℕ) → b < 8 → (y * columns ≤ (band_at bands (first + b)).t) × ((band_at bands (first + b)).t ≤ y * columns + columns)
 
--- how many lanes come to the last column before step `last`: the first ones, one after another
+-- how many lanes come to the end of the row before step `last`: the first ones, one after another
 abbrev pub ended : ℕ → ℕ → ℕ → ℕ
-ended columns origin last = origin + last - (columns + 6)
+ended columns origin last = origin + last - (columns + 7)
 
--- the column that a lane has come to before step `last`: the last column at most
+-- the column that a lane has come to before step `last`, or the end of the row
 abbrev pub end_column : ℕ → ℕ → ℕ → ℕ → ℕ
-end_column columns origin last b = min (columns - 1) (column_at origin last b)
+end_column columns origin last b = min columns (column_at origin last b)
 
--- the rows that hold the weights of a lane there: some that were kept for it, if it has come to the last column before
+-- the rows that hold the weights of a lane there: some that were kept for it, if it has come to the end of the row before
 abbrev pub rows_at_end : ℕ → (ℕ → List (List ℤ)) → List (List ℤ) → ℕ → List (List ℤ)
 rows_at_end lanes ends weights b = if nat_lt b lanes then ends b else weights
 
@@ -59,13 +59,13 @@ pub record AreCollected (q lanes : ℕ) (numbers : List (List ℤ)) (ends : ℕ 
   pub offsets_are : (i b : ℕ) → i < 64 → b < 8 → place numbers i b ≡ pos (offset_in found.offsets b i)
   pub weights_are : (b : ℕ) → b < 8 → take (2 * q) (slice_index_or found.weights b []) ≡ weights_of q b (rows_at_end lanes ends weights b)
 
--- the offsets of each band are found from its first step to step `last`, up to the last column but one, and its weights after them, among the first 2·q
+-- the offsets of each band are found from its first step to step `last`, up to the last column, and its weights after them, among the first 2·q
 pub record AreFound (q : ℕ) (bands : List PredictorState) (c : Image) (first y origin last : ℕ) (found : Found) : Type 0 where
   pub within : (b i : ℕ) → b < 8 → i < 64 → offset_in found.offsets b i < 2 ^ c.kind.bits
   pub enough : (b : ℕ) → b < 8 → length (band_at bands (first + b)).weights ≤ 2 * q
   pub weights_in : (b : ℕ) → b < 8 → AllWithin (2 ^ ((band_at bands (first + b)).predictor.omega + 2)) (take (2 * q) (slice_index_or found.weights b []))
   pub offsets_at : (p : Params) (d : Image) → IsInverting p c d bands → (b i : ℕ) → b < 8 → first_step origin b ≤ i → i < last
-      → column_at origin i b + 1 < c.shape.columns → offset_in found.offsets b i ≡ number_at d (first + b) y (column_at origin i b)
+      → column_at origin i b < c.shape.columns → offset_in found.offsets b i ≡ number_at d (first + b) y (column_at origin i b)
   pub weights_at : (p : Params) (d : Image) → IsInverting p c d bands → (b : ℕ) → b < 8
       → take (length (band_at bands (first + b)).weights) (slice_index_or found.weights b [])
       ≡ weight_vector p d (first + b) (y * c.shape.columns + end_column c.shape.columns origin last b)

@@ -107,7 +107,7 @@ fn begin_lanes<const Q: usize>(
     true
 }
 
-/// Inverts the prediction of eight lanes from step `from` to step `last`. Before step `from + b` lane b comes to its last column.
+/// Inverts the prediction of eight lanes from step `from` to step `last`. Before step `from + b` lane b comes to the end of the row.
 ///
 /// There its weights are kept, since its further steps have no meaning.
 pub(crate) fn end_lanes<const Q: usize>(form: Form, from: usize, last: usize, room: &mut WaveRoom)
@@ -128,7 +128,7 @@ pub(crate) fn end_lanes<const Q: usize>(form: Form, from: usize, last: usize, ro
     ensures kept { (p : Parameters) (s : ℕ → Constants) (d : Image) (first y origin : ℕ)
         → AreLanes Q (narrow_form form) p s d first y origin last room.old.above room.old.lower → 15 ≤ origin + from
         → AreInStep Q p s d first y origin last 8 from room.old.numbers room.old.own room.old.weights
-        → (b : ℕ) → b < last - from → column_at origin (from + b) b < d.shape.columns
+        → (b : ℕ) → b < last - from → column_at origin (from + b) b ≤ d.shape.columns
         → AreWeightsAt p (s b).predictor d (first + b) (y * d.shape.columns + column_at origin (from + b) b) (take (s b).count (weights_of Q b (kept_rows room.new.ends b))) }
 {
     for b in 0..last - from {

@@ -12,7 +12,7 @@ use lanes::turn::turn_back;
 use predict_core::lane_weights::take_weights;
 use sample_prediction::predictor::MOST_COMPONENTS;
 
-/// Collects what eight lanes have found. The first ones, so many as `lanes`, came to the last column before the last step: their weights
+/// Collects what eight lanes have found. The first ones, so many as `lanes`, came to the end of the row before the last step: their weights
 /// are those that were kept.
 pub(crate) fn collect<const Q: usize>(lanes: usize, room: &mut WaveRoom)
     requires few { Q ≤ 9 }

@@ -33,7 +33,7 @@ pub(crate) fn finish_lanes<const Q: usize>(
     requires row { y < cube.old.shape.rows }
     requires last { (8 ≤ last) × (last ≤ 63) }
     requires begun { (origin ≡ 0 → 15 ≤ last) × (0 < origin → 7 ≤ origin) }
-    requires inside { (16 ≤ cube.old.shape.columns) × (origin + 2 ≤ cube.old.shape.columns) × (origin + last ≤ cube.old.shape.columns + 13) }
+    requires inside { (16 ≤ cube.old.shape.columns) × (origin + 2 ≤ cube.old.shape.columns) × (origin + last ≤ cube.old.shape.columns + 14) }
     requires stand { StandAsWave bands.old first cube.old.shape.columns y origin }
     requires enough { (b : ℕ) → b < 8 → length (band_at bands.old (first + b)).weights ≤ 2 * Q }
     requires found { AreFound Q bands.old cube.old first y origin last found.now }
@@ -49,7 +49,7 @@ pub(crate) fn finish_lanes<const Q: usize>(
     }
 }
 
-/// Writes the offsets that lane `b` found from its first step to step `last`, or to the last column, into row `y` of the cube, as samples of
+/// Writes the offsets that lane `b` found from its first step to step `last`, or to the end of the row, into row `y` of the cube, as samples of
 /// band `first + b`, and advances the band.
 fn finish_lane<const Q: usize>(
     bands: &mut [Band],
@@ -73,7 +73,7 @@ fn finish_lane<const Q: usize>(
     requires enough { length (band_at bands.old (first + b)).weights ≤ 2 * Q }
     requires weights_in { AllWithin (2 ^ ((band_at bands.old (first + b)).predictor.omega + 2)) (take (2 * Q) (slice_index_or found.now.weights b [])) }
     ensures inverted { (p : Parameters) (d : Image) → IsInverting p cube.old d bands.old
-        → ((i : ℕ) → first_step origin b ≤ i → i < last → column_at origin i b + 1 < cube.old.shape.columns → offset_in found.now.offsets b i ≡ number_at d (first + b) y (column_at origin i b))
+        → ((i : ℕ) → first_step origin b ≤ i → i < last → column_at origin i b < cube.old.shape.columns → offset_in found.now.offsets b i ≡ number_at d (first + b) y (column_at origin i b))
         → take (length (band_at bands.old (first + b)).weights) (slice_index_or found.now.weights b [])
         ≡ weight_vector p d (first + b) (y * cube.old.shape.columns + end_column cube.old.shape.columns origin last b)
         → IsInverting p cube.new d bands.new }
@@ -100,17 +100,17 @@ fn end_of(cube: &Cube, origin: usize, last: usize, b: usize) -> usize
     ensures { result ≡ end_column cube.now.shape.columns origin last b }
 {
     let columns = cube.shape().columns() as usize;
-    (columns - 1).min(origin + last - (7 + b))
+    columns.min(origin + last - (7 + b))
 }
 
-/// Returns how many lanes come to the last column before step `last`.
+/// Returns how many lanes come to the end of the row before step `last`.
 pub(crate) fn ended_of(cube: &Cube, origin: usize, last: usize) -> usize
     requires origin { origin ≤ 65536 }
     requires last { last ≤ 63 }
     ensures { result ≡ ended cube.now.shape.columns origin last }
 {
     let columns = cube.shape().columns() as usize;
-    (origin + last).saturating_sub(columns + 6)
+    (origin + last).saturating_sub(columns + 7)
 }
 
 /// Advances a band by `count` places, after which it has the first 2·`Q` of some weights.

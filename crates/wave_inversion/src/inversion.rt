@@ -97,7 +97,7 @@ fn invert_rows(
     }
 }
 
-/// Inverts row `y` of eight bands as a wavefront, but for its first and last column.
+/// Inverts row `y` of eight bands as a wavefront, but for its first column.
 fn invert_wave(
     bands: &mut [Band],
     first: usize,
@@ -172,8 +172,8 @@ fn column_in(band: &Band, cube: &Cube, y: u32) -> u32
     (band.next() - y as u64 * cube.shape().columns() as u64) as u32
 }
 
-/// Inverts row `y` of eight bands from column 1 on, piece after piece, until they have come to the last column. It ends before where 16
-/// bits don't hold their weights.
+/// Inverts row `y` of eight bands from column 1 on, piece after piece, until they have come to its end. It ends before where 16 bits
+/// don't hold their weights.
 fn invert_tiles(
     bands: &mut [Band],
     first: usize,
@@ -199,7 +199,7 @@ fn invert_tiles(
     let columns = cube.shape().columns() as usize;
     let mut origin = 0;
     // All bands end in one piece, the last: its 63 steps are enough for it.
-    while origin + 50 < columns {
+    while origin + 49 < columns {
         let last = 63.min(columns + 6 - origin);
         if !invert_by(bands, first, cube, y, origin, last, form, rooms) {
             return;
@@ -212,7 +212,7 @@ fn invert_tiles(
         cube,
         y,
         origin,
-        columns + 13 - origin,
+        columns + 14 - origin,
         form,
         rooms,
     );

@@ -5,7 +5,7 @@ ghost use Rattle.cube_core.specs.Image.{IsPlace};
 ghost use Rattle.lanes.specs.Lanes.{lane, place};
 ghost use Rattle.predict_core.specs.Offsets.{number_at};
 ghost use Rattle.wave_inversion.specs.Wave.{AreOffsetLines, AreOffsetRows};
-ghost use Rattle.wave_inversion.specs.WaveLanes.{column_at};
+ghost use Rattle.wave_inversion.specs.WaveLanes.{column_at, column_within};
 ghost use Rattle.wave_inversion.specs.WaveRows.{AreLinesOf, AreRowsOf, IsSkewed};
 
 use cube_core::cube::Cube;
@@ -13,8 +13,8 @@ use lanes::turn::turn;
 use predict_core::lines::clear_line;
 
 /// Writes 64 rows of eight lanes: in row i, lane b has the offset at column `origin + below + i - 7 - b` of row `y` of the band that is
-/// `below` bands below band `first + b`, or 0 where there is no such band or column. Lanes before
-/// number `least` are left out.
+/// `below` bands below band `first + b`, and after the last column that of the last one once more. It has 0 where there is no such band or
+/// column. Lanes before number `least` are left out.
 pub(crate) fn fill_rows(
     cube: &Cube,
     first: usize,
@@ -28,6 +28,7 @@ pub(crate) fn fill_rows(
     requires below { below ≤ 8 }
     requires bands { first + 8 ≤ cube.now.shape.bands }
     requires row { y < cube.now.shape.rows }
+    requires some { 0 < cube.now.shape.columns }
     requires origin { origin ≤ 65536 }
     requires bits { cube.now.kind.bits ≤ 12 }
     ensures numbers { AreRowsOf cube.now first below least y origin rows.new }
@@ -50,6 +51,7 @@ pub(crate) fn fill_lines(
     requires below { below ≤ 8 }
     requires bands { first + 8 ≤ cube.now.shape.bands }
     requires row { y < cube.now.shape.rows }
+    requires some { 0 < cube.now.shape.columns }
     requires origin { origin ≤ 65536 }
     requires bits { cube.now.kind.bits ≤ 12 }
     ensures numbers { AreLinesOf cube.now first below least y origin lines.new }
@@ -76,10 +78,11 @@ fn fill_line(
     requires below { below ≤ 8 }
     requires band { z < cube.now.shape.bands }
     requires row { y < cube.now.shape.rows }
+    requires some { 0 < cube.now.shape.columns }
     requires origin { origin ≤ 65536 }
     requires bits { cube.now.kind.bits ≤ 12 }
-    ensures numbers { (i : ℕ) → i < 64 → least ≤ b → below ≤ z → 7 + b ≤ origin + below + i → column_at (origin + below) i b < cube.now.shape.columns
-        → place lines.new b i ≡ pos (number_at cube.now (z - below) y (column_at (origin + below) i b)) }
+    ensures numbers { (i : ℕ) → i < 64 → least ≤ b → below ≤ z → 7 + b ≤ origin + below + i → column_at (origin + below) i b ≤ cube.now.shape.columns
+        → place lines.new b i ≡ pos (number_at cube.now (z - below) y (column_within cube.now.shape.columns (column_at (origin + below) i b))) }
     ensures none { (i : ℕ) → i < 64 → z < below → place lines.new b i ≡ pos 0 }
     ensures within { (i : ℕ) → i < 64 → (pos 0 ≤ℤ place lines.new b i) × (place lines.new b i ≤ℤ (pos (2 ^ cube.now.kind.bits) -ℤ pos 1)) }
     ensures others { (k i : ℕ) → k ≢ b → place lines.new k i ≡ place lines.old k i }
@@ -93,11 +96,11 @@ fn fill_line(
     }
 }
 
-/// Writes a row from column `origin - back` on, with zeros where there is no column.
+/// Writes a row from column `origin - back` on, and after its last number this once more. It writes zeros where there is no column.
 fn skew(row: &[u16], origin: usize, back: usize, line: &mut [i16; 64])
     requires back { back < 15 }
     requires origin { origin ≤ 65544 }
-    requires columns { length row.now ≤ 65536 }
+    requires columns { (0 < length row.now) × (length row.now ≤ 65536) }
     requires small { (x : ℕ) → x < length row.now → slice_index row.now x < 2 ^ 12 }
     ensures { IsSkewed row.now origin back (lane line.new) }
 {
@@ -110,8 +113,80 @@ fn skew(row: &[u16], origin: usize, back: usize, line: &mut [i16; 64])
     }
     let count = (64 - first).min(row.len().saturating_sub(from));
     clear_line(line);
+    put_numbers(row, from, first, count, line);
+    repeat_last(row, first + count, line);
+}
+
+/// Writes `count` numbers of a row, from column `from` on, into a line from place `first` on.
+fn put_numbers(row: &[u16], from: usize, first: usize, count: usize, line: &mut [i16; 64])
+    requires places { first + count ≤ 64 }
+    requires columns { 0 < count → from + count ≤ length row.now }
+    requires few { length row.now ≤ 65536 }
+    requires small { (x : ℕ) → x < length row.now → slice_index row.now x < 2 ^ 12 }
+    ensures numbers { (i : ℕ) → i < count → lane line.new (first + i) ≡ pos (slice_index row.now (from + i)) }
+    ensures others { (i : ℕ) → (first ≤ i → first + count ≤ i) → lane line.new i ≡ lane line.old i }
+{
+    if count < 8 {
+        put_few(row, from, first, count, line);
+    } else {
+        put_eights(row, from, first, count, line);
+    }
+}
+
+/// `put_numbers` of at least eight numbers, eight at a time: the last eight may overlap those before them.
+fn put_eights(row: &[u16], from: usize, first: usize, count: usize, line: &mut [i16; 64])
+    requires many { 8 ≤ count }
+    requires places { first + count ≤ 64 }
+    requires columns { from + count ≤ length row.now }
+    requires few { length row.now ≤ 65536 }
+    requires small { (x : ℕ) → x < length row.now → slice_index row.now x < 2 ^ 12 }
+    ensures numbers { (i : ℕ) → i < count → lane line.new (first + i) ≡ pos (slice_index row.now (from + i)) }
+    ensures others { (i : ℕ) → (first ≤ i → first + count ≤ i) → lane line.new i ≡ lane line.old i }
+{
+    for k in 0..(count - 1) / 8 {
+        put_eight(row, from + 8 * k, first + 8 * k, line);
+    }
+    put_eight(row, from + count - 8, first + count - 8, line);
+}
+
+/// Writes eight numbers of a row, from column `from` on, into a line from place `first` on.
+#[inline(always)]
+fn put_eight(row: &[u16], from: usize, first: usize, line: &mut [i16; 64])
+    requires places { first + 8 ≤ 64 }
+    requires columns { from + 8 ≤ length row.now }
+    requires few { length row.now ≤ 65536 }
+    requires small { (x : ℕ) → x < length row.now → slice_index row.now x < 2 ^ 12 }
+    ensures numbers { (i : ℕ) → i < 8 → lane line.new (first + i) ≡ pos (slice_index row.now (from + i)) }
+    ensures others { (i : ℕ) → (first ≤ i → first + 8 ≤ i) → lane line.new i ≡ lane line.old i }
+{
+    for j in 0..8usize {
+        line[first + j] = row[from + j] as i16;
+    }
+}
+
+/// `put_numbers`, a number at a time.
+fn put_few(row: &[u16], from: usize, first: usize, count: usize, line: &mut [i16; 64])
+    requires places { first + count ≤ 64 }
+    requires columns { 0 < count → from + count ≤ length row.now }
+    requires few { length row.now ≤ 65536 }
+    requires small { (x : ℕ) → x < length row.now → slice_index row.now x < 2 ^ 12 }
+    ensures numbers { (i : ℕ) → i < count → lane line.new (first + i) ≡ pos (slice_index row.now (from + i)) }
+    ensures others { (i : ℕ) → (first ≤ i → first + count ≤ i) → lane line.new i ≡ lane line.old i }
+{
     for i in 0..count {
         line[first + i] = row[from + i] as i16;
+    }
+}
+
+/// Writes the last number of a row at place `i` of a line, if it has that place.
+fn repeat_last(row: &[u16], i: usize, line: &mut [i16; 64])
+    requires some { 0 < length row.now }
+    requires small { (x : ℕ) → x < length row.now → slice_index row.now x < 2 ^ 12 }
+    ensures here { i < 64 → lane line.new i ≡ pos (slice_index row.now (length row.now - 1)) }
+    ensures others { (k : ℕ) → k ≢ i → lane line.new k ≡ lane line.old k }
+{
+    if i < 64 {
+        line[i] = row[row.len() - 1] as i16;
     }
 }
 

@@ -25,7 +25,7 @@ use predict_core::settings::Settings;
 /// Inverts row `y` of eight bands from step 8 to step `last`, and returns whether 16 bits hold their weights. If not, nothing is inverted.
 ///
 /// At step k band `first + b` is at column `origin + k - 7 - b`. Where `origin` is 0 no band has come further than column 1, so each
-/// begins a step after the one below it. No band goes beyond the last column but one. The bands below them have come to the end of the
+/// begins a step after the one below it. No band goes beyond the last column. The bands below them have come to the end of the
 /// row. `Q` pairs hold the components of each band.
 pub(crate) fn invert_tile<const Q: usize>(
     bands: &mut [Band],
@@ -43,7 +43,7 @@ pub(crate) fn invert_tile<const Q: usize>(
     requires row { (0 < y) × (y < cube.old.shape.rows) }
     requires last { (8 ≤ last) × (last ≤ 63) }
     requires begun { (origin ≡ 0 → 15 ≤ last) × (0 < origin → 7 ≤ origin) }
-    requires inside { (16 ≤ cube.old.shape.columns) × (origin + 2 ≤ cube.old.shape.columns) × (origin + last ≤ cube.old.shape.columns + 13) }
+    requires inside { (16 ≤ cube.old.shape.columns) × (origin + 2 ≤ cube.old.shape.columns) × (origin + last ≤ cube.old.shape.columns + 14) }
     requires stand { StandAsWave bands.old first cube.old.shape.columns y origin }
     requires ahead { AreAhead bands.old first ((y + 1) * cube.old.shape.columns) }
     requires form { IsFormOf (narrow_form form) (band_at bands.old first).predictor cube.old y }
@@ -79,7 +79,7 @@ fn invert_lanes<const Q: usize>(
     requires row { (0 < y) × (y < cube.now.shape.rows) }
     requires last { (8 ≤ last) × (last ≤ 63) }
     requires begun { (origin ≡ 0 → 15 ≤ last) × (0 < origin → 7 ≤ origin) }
-    requires inside { (16 ≤ cube.now.shape.columns) × (origin + 2 ≤ cube.now.shape.columns) × (origin + last ≤ cube.now.shape.columns + 13) }
+    requires inside { (16 ≤ cube.now.shape.columns) × (origin + 2 ≤ cube.now.shape.columns) × (origin + last ≤ cube.now.shape.columns + 14) }
     requires stand { StandAsWave bands.now first cube.now.shape.columns y origin }
     requires ahead { AreAhead bands.now first ((y + 1) * cube.now.shape.columns) }
     requires form { IsFormOf (narrow_form form) (band_at bands.now first).predictor cube.now y }

@@ -13,7 +13,7 @@ use band_lanes::pairs::MOST_PAIRS;
 use lanes::turn::turn_back;
 use sample_prediction::predictor::MOST_COMPONENTS;
 
-/// Collects what eight lanes have found. The first ones, so many as `lanes`, came to the last column before the last step: their weights
+/// Collects what eight lanes have found. The first ones, so many as `lanes`, came to the end of the row before the last step: their weights
 /// are those that were kept.
 pub(crate) fn collect<const Q: usize>(lanes: usize, room: &mut LongWaveRoom)
     requires few { Q ≤ 9 }

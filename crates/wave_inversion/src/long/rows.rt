@@ -5,14 +5,14 @@ ghost use Rattle.cube_core.specs.Image.{IsPlace};
 ghost use Rattle.lanes.specs.Lanes.{lane, place};
 ghost use Rattle.predict_core.specs.Offsets.{number_at};
 ghost use Rattle.wave_inversion.specs.Wave.{AreOffsetRows};
-ghost use Rattle.wave_inversion.specs.WaveLanes.{column_at};
+ghost use Rattle.wave_inversion.specs.WaveLanes.{column_at, column_within};
 ghost use Rattle.wave_inversion.specs.WaveRows.{AreRowsOf, IsSkewed};
 
 use cube_core::cube::Cube;
 
 /// Writes 64 rows of eight lanes: in row i, lane b has the offset at column `origin + below + i - 7 - b` of row `y` of the band that is
-/// `below` bands below band `first + b`, or 0 where there is no such band or column. Lanes before
-/// number `least` are left out.
+/// `below` bands below band `first + b`, and after the last column that of the last one once more. It has 0 where there is no such band or
+/// column. Lanes before number `least` are left out.
 pub(crate) fn fill_rows(
     cube: &Cube,
     first: usize,
@@ -25,6 +25,7 @@ pub(crate) fn fill_rows(
     requires below { below ≤ 8 }
     requires bands { first + 8 ≤ cube.now.shape.bands }
     requires row { y < cube.now.shape.rows }
+    requires some { 0 < cube.now.shape.columns }
     requires origin { origin ≤ 65536 }
     ensures numbers { AreRowsOf cube.now first below least y origin rows.new }
     ensures within { AreOffsetRows (pos (2 ^ cube.now.kind.bits) -ℤ pos 1) rows.new }
@@ -51,10 +52,11 @@ fn fill_lane(
     requires below { below ≤ 8 }
     requires band { z < cube.now.shape.bands }
     requires row { y < cube.now.shape.rows }
+    requires some { 0 < cube.now.shape.columns }
     requires origin { origin ≤ 65536 }
     requires zeros { (i : ℕ) → i < 64 → place rows.old i b ≡ pos 0 }
-    ensures numbers { (i : ℕ) → i < 64 → least ≤ b → below ≤ z → 7 + b ≤ origin + below + i → column_at (origin + below) i b < cube.now.shape.columns
-        → place rows.new i b ≡ pos (number_at cube.now (z - below) y (column_at (origin + below) i b)) }
+    ensures numbers { (i : ℕ) → i < 64 → least ≤ b → below ≤ z → 7 + b ≤ origin + below + i → column_at (origin + below) i b ≤ cube.now.shape.columns
+        → place rows.new i b ≡ pos (number_at cube.now (z - below) y (column_within cube.now.shape.columns (column_at (origin + below) i b))) }
     ensures none { (i : ℕ) → i < 64 → z < below → place rows.new i b ≡ pos 0 }
     ensures within { (i : ℕ) → i < 64 → (pos 0 ≤ℤ place rows.new i b) × (place rows.new i b ≤ℤ (pos (2 ^ cube.now.kind.bits) -ℤ pos 1)) }
     ensures others { (i k : ℕ) → k ≢ b → place rows.new i k ≡ place rows.old i k }
@@ -66,12 +68,13 @@ fn fill_lane(
     }
 }
 
-/// Writes a row from column `origin - back` on into lane `b`, which has zeros: these stay where there is no column.
+/// Writes a row from column `origin - back` on into lane `b`, which has zeros, and after its last number this once more. The zeros stay where
+/// there is no column.
 fn skew(row: &[u16], origin: usize, back: usize, b: usize, rows: &mut [[i32; 8]; 64])
     requires back { back < 15 }
     requires lane { b < 8 }
     requires origin { origin ≤ 65544 }
-    requires columns { length row.now ≤ 65536 }
+    requires columns { (0 < length row.now) × (length row.now ≤ 65536) }
     requires zeros { (i : ℕ) → i < 64 → place rows.old i b ≡ pos 0 }
     ensures skewed { IsSkewed row.now origin back (λ (i : ℕ). place rows.new i b) }
     ensures others { (i k : ℕ) → k ≢ b → place rows.new i k ≡ place rows.old i k }
@@ -80,6 +83,20 @@ fn skew(row: &[u16], origin: usize, back: usize, b: usize, rows: &mut [[i32; 8];
     let from = origin + first - back;
     let count = (64 - first).min(row.len().saturating_sub(from));
     put_numbers(row, from, first, count, b, rows);
+    repeat_last(row, first + count, b, rows);
+}
+
+/// Writes the last number of a row into lane `b` of row `i`, if there is one.
+fn repeat_last(row: &[u16], i: usize, b: usize, rows: &mut [[i32; 8]; 64])
+    requires lane { b < 8 }
+    requires some { 0 < length row.now }
+    ensures here { i < 64 → place rows.new i b ≡ pos (slice_index row.now (length row.now - 1)) }
+    ensures others { (k : ℕ) → k ≢ i → place rows.new k b ≡ place rows.old k b }
+    ensures lanes { (k c : ℕ) → c ≢ b → place rows.new k c ≡ place rows.old k c }
+{
+    if i < 64 {
+        put_number(row[row.len() - 1] as i32, i, b, rows);
+    }
 }
 
 /// Writes `count` numbers of a row, from column `from` on, into lane `b` from step `first` on.

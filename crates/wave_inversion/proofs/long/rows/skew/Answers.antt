@@ -1,40 +1,63 @@
-use Rattle.std.proofs.Common.{◌≡◌, ◌∙◌, ◌+◌, ◌-◌, ◌<◌, ◌≤◌, ℕ, pos, inl, inr, arith, ap, sym}
-use Rattle.std.proofs.lemmas.Bool.{cases_lt}
+use Rattle.std.proofs.Common.{◌≡◌, ◌∙◌, ◌+◌, ◌-◌, ◌<◌, ◌≤◌, ℕ, pos, length, inl, inr, arith, ap, sym}
+use Rattle.std.proofs.lemmas.Bool.{cases_lt, cases_eq}
 use Rattle.std.specs.List.{slice_index}
 use Rattle.lanes.specs.Lanes.{place}
+use Rattle.wave_inversion.specs.WaveLanes.{column_within}
 use Rattle.wave_inversion.proofs.long.rows.skew.Goals as goal
-use Rattle.wave_inversion.proofs.long.rows.skew.Goals.{After-put_numbers}
+use Rattle.wave_inversion.proofs.long.rows.skew.Goals.{After-repeat_last}
 
-module _ (c : After-put_numbers) where
+module _ (c : After-repeat_last) where
   abbrev first : ℕ
   first = c.saturating_sub-first.result
 
   abbrev from : ℕ
   from = c.args.origin + first - c.args.back
 
+  abbrev count : ℕ
+  count = c.min-count.result
+
   -- a place among those that are written
-  written : (i : ℕ) → first ≤ i → i - first < c.min-count.result
-      → place c.put_numbers.new.rows i c.args.b ≡ pos (slice_index c.args.row.now (from + (i - first)))
+  written : (i : ℕ) → first ≤ i → i - first < count → place c.repeat_last.new.rows i c.args.b ≡ pos (slice_index c.args.row.now (from + (i - first)))
   written i low lt =
       let at : first + (i - first) ≡ i = omega (arith, low) in
-      sym (ap (λ (k : ℕ). place c.put_numbers.new.rows k c.args.b) at) ∙ c.put_numbers.ensures.numbers (i - first) lt
+      c.repeat_last.ensures.others i (λ e. omega (arith, e, low, lt)) ∙ sym (ap (λ (k : ℕ). place c.put_numbers.new.rows k c.args.b) at)
+      ∙ c.put_numbers.ensures.numbers (i - first) lt
 
-  -- a place beside them
-  beside : (i : ℕ) → i < 64 → (first ≤ i → first + c.min-count.result ≤ i) → place c.put_numbers.new.rows i c.args.b ≡ pos 0
-  beside i small apart = c.put_numbers.ensures.others i apart ∙ c.requires.zeros i small
+  -- the one after them
+  repeated : (i : ℕ) → i < 64 → first + count ≡ i → place c.repeat_last.new.rows i c.args.b ≡ pos (slice_index c.args.row.now (length c.args.row.now - 1))
+  repeated i small at = ap (λ (k : ℕ). place c.repeat_last.new.rows k c.args.b) (sym at) ∙ c.repeat_last.ensures.here (omega (arith, at, small))
+
+  -- and one beside all of these
+  beside : (i : ℕ) → i < 64 → (first ≤ i → first + count < i) → place c.repeat_last.new.rows i c.args.b ≡ pos 0
+  beside i small apart =
+      c.repeat_last.ensures.others i (λ e. (let far = apart (omega (arith, e)) in omega (arith, e, far)))
+      ∙ c.put_numbers.ensures.others i (λ h. (let far = apart h in omega (arith, far))) ∙ c.requires.zeros i small
+
+  column_is : (i : ℕ) → i < 64 → first ≤ i → i - first < count → from + (i - first) ≡ c.args.origin + i - c.args.back
+      → from + (i - first) ≡ column_within (length c.args.row.now) (c.args.origin + i - c.args.back)
+  column_is i small low lt column = omega (arith, c.min-count.ensures, c.saturating_sub.ensures, lt, column)
 
 pub returns-clause-skewed : goal.returns-clause-skewed
 returns-clause-skewed c = record {
   numbers = λ i small before within.
       let low : first c ≤ i = omega (arith, c.saturating_sub-first.ensures, before) in
       let column : from c + (i - first c) ≡ c.args.origin + i - c.args.back = omega (arith, c.saturating_sub-first.ensures, before, low) in
-      written c i low (omega (arith, c.min-count.ensures, c.saturating_sub.ensures, low, small, column, within))
-      ∙ ap (λ (x : ℕ). pos (slice_index c.args.row.now x)) column;
+      elim (cases_lt (i - first c) (count c)) [
+        | inl lt ↦ written c i low lt ∙ ap (λ (x : ℕ). pos (slice_index c.args.row.now x)) (column_is c i small low lt column)
+        | inr after ↦
+            (let ends : c.args.origin + i - c.args.back ≡ length c.args.row.now =
+            omega (arith, c.min-count.ensures, c.saturating_sub.ensures, after, low, small, column, within) in
+            repeated c i small (omega (arith, c.min-count.ensures, c.saturating_sub.ensures, after, low, small, column, within))
+            ∙ ap (λ (x : ℕ). pos (slice_index c.args.row.now x)) (omega (arith, ends)))
+      ];
   each = λ i small. elim (cases_lt i (first c)) [
     | inl before ↦ inl (beside c i small (λ h. absurd (omega (arith, h, before))))
-    | inr low ↦ elim (cases_lt (i - first c) c.min-count.result) [
-      | inr after ↦ inl (beside c i small (λ h. omega (arith, h, after)))
+    | inr low ↦ elim (cases_lt (i - first c) (count c)) [
       | inl lt ↦ inr (from c + (i - first c), omega (arith, lt, c.min-count.ensures, c.saturating_sub.ensures), written c i low lt)
+      | inr after ↦ elim (cases_eq i (first c + count c)) [
+        | inl here ↦ inr (length c.args.row.now - 1, omega (arith, c.requires.columns.0), repeated c i small (sym here))
+        | inr apart ↦ inl (beside c i small (λ h. omega (arith, h, after, apart)))
+      ]
     ]
   ];
 }
