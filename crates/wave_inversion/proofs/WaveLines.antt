@@ -45,10 +45,7 @@ pub rows_of_lines : {c : Image} {first below least y origin : ℕ} {lines : List
     → AreRowsOf c first below least y origin (turned lines least)
 rows_of_lines {least = least} {lines = lines} a = record {
   numbers = λ i b h m used some left right. turned_from lines least i b h m used ∙ a.numbers b i m h used some left right;
-  none = λ i b h m out. elim (cases_lt b least) [
-    | inl before ↦ turned_before lines least i b h m before
-    | inr used ↦ turned_from lines least i b h m used ∙ a.none b i m h out
-  ];
+  none = λ i b h m used out. turned_from lines least i b h m used ∙ a.none b i m h used out;
 }
 
 nothing : (r : Bool) → pos 4 *ℤ pos 0 -ℤ sum_by r (pos 0) (pos 0) (pos 0) (pos 0) ≡ pos 0

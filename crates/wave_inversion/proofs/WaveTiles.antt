@@ -153,9 +153,9 @@ module _ {q : ℕ} {f : WaveForm} {c : Image} {bands : List PredictorState} {fir
     column_is : column_at origin (i + 8) b ≡ x
     column_is = omega arith
 
-    lower_none : first + b < 8 → place lower i b ≡ pos 0
-    lower_none out =
-        let zero = λ (j : ℕ) (h : j < 64). k.filled.lower_numbers_is.none j b h fits out in let zero_above = λ (j : ℕ) (h : j < 64). k.filled.lower_above_is.none j b h fits out in
+    lower_none : 8 ≤ f.previous + b → first + b < 8 → place lower i b ≡ pos 0
+    lower_none used out =
+        let zero = λ (j : ℕ) (h : j < 64). k.filled.lower_numbers_is.none j b h fits (omega (arith, used)) out in let zero_above = λ (j : ℕ) (h : j < 64). k.filled.lower_above_is.none j b h fits (omega (arith, used)) out in
         k.filled.lower_is i b low high fits
         ∙ rw (
           zero i (omega (arith, high)),
@@ -198,7 +198,7 @@ module _ {q : ℕ} {f : WaveForm} {c : Image} {bands : List PredictorState} {fir
   below_is : (i b : ℕ) → 1 ≤ i → i < last → b < 8 → 8 ≤ f.previous + b → 0 < column_at origin (i + 8) b → column_at origin (i + 8) b < d.shape.columns
       → place lower i b ≡ (if nat_le 8 (first + b) then central_difference base.predictor d (first + b - 8) y (column_at origin (i + 8) b) else pos 0)
   below_is i b low high fits used left right = elim (cases_lt (first + b) 8) [
-    | inl out ↦ lower_none i b low (omega (arith, high, k.steps)) fits out ∙ sym (test_no (first + b) _ _ out)
+    | inl out ↦ lower_none i b low (omega (arith, high, k.steps)) fits used out ∙ sym (test_no (first + b) _ _ out)
     | inr some ↦ lower_some i b low (omega (arith, high, k.steps)) fits used some (rw (← column_is i b low (omega (arith, high, k.steps)) fits) left)
         (omega (arith, right, columns, column_is i b low (omega (arith, high, k.steps)) fits))
         ∙ ap (central_difference base.predictor d (first + b - 8) y) (sym (column_is i b low (omega (arith, high, k.steps)) fits))

@@ -1,5 +1,5 @@
 -- A wavefront of eight bands: what its lanes hold.
-use Rattle.std.specs.Prelude.{ℕ, ◌+◌, ◌-◌, ◌<◌, nat_lt, ℤ, pos, ◌+ℤ◌, ◌*ℤ◌, ◌≤ℤ◌, unsigned_abs, Bool, List, [], slice_index_or, if◌then◌else◌}
+use Rattle.std.specs.Prelude.{ℕ, ◌+◌, ◌-◌, ◌<◌, ◌≤◌, nat_lt, ℤ, pos, ◌+ℤ◌, ◌*ℤ◌, ◌≤ℤ◌, unsigned_abs, Bool, List, [], slice_index_or, if◌then◌else◌}
 use Rattle.lanes.specs.Lanes.{lane, place}
 use Rattle.wave_inversion.specs.declared.room.WeightRows.{WeightRows}
 use Rattle.wave_inversion.specs.declared.long.room.LongWeightRows.{LongWeightRows}
@@ -45,9 +45,9 @@ line_of lines b = slice_index_or lines b []
 abbrev pub AreLineOffsets : ℤ → List ℤ → Type 0
 AreLineOffsets limit line = (i : ℕ) → i < 64 → (pos 0 ≤ℤ lane line i) × (lane line i ≤ℤ limit)
 
--- each of eight lines holds numbers from 0 to a limit
-abbrev pub AreOffsetLines : ℤ → List (List ℤ) → Type 0
-AreOffsetLines limit lines = (b : ℕ) → b < 8 → AreLineOffsets limit (line_of lines b)
+-- each of eight lines from number `least` on holds numbers from 0 to a limit
+abbrev pub AreOffsetLines : ℕ → ℤ → List (List ℤ) → Type 0
+AreOffsetLines least limit lines = (b : ℕ) → least ≤ b → b < 8 → AreLineOffsets limit (line_of lines b)
 
 -- the local sum of offsets at place i of a line, of a line of offsets and that of the row above
 abbrev pub sum_along : Bool → List ℤ → List ℤ → ℕ → ℤ

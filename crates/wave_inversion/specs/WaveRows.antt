@@ -27,14 +27,14 @@ pub record IsSkewed (row : List ℕ) (origin back : ℕ) (line : ℕ → ℤ) : 
 pub record AreLinesOf (c : Image) (first below least y origin : ℕ) (lines : List (List ℤ)) : Type 0 where
   pub numbers : (b i : ℕ) → b < 8 → i < 64 → least ≤ b → below ≤ first + b → 7 + b ≤ origin + below + i → column_at (origin + below) i b ≤ c.shape.columns
       → place lines b i ≡ pos (number_at c (first + b - below) y (column_within c.shape.columns (column_at (origin + below) i b)))
-  pub none : (b i : ℕ) → b < 8 → i < 64 → first + b < below → place lines b i ≡ pos 0
+  pub none : (b i : ℕ) → b < 8 → i < 64 → least ≤ b → first + b < below → place lines b i ≡ pos 0
 
 -- row i of 64 has in lane b the offset at column origin + below + i - 7 - b of row y of the band so many below band first + b, and after the last column that of
 -- the last one once more, or 0 where there is no such band; in lanes before number `least` it has numbers without meaning
 pub record AreRowsOf (c : Image) (first below least y origin : ℕ) (rows : List (List ℤ)) : Type 0 where
   pub numbers : (i b : ℕ) → i < 64 → b < 8 → least ≤ b → below ≤ first + b → 7 + b ≤ origin + below + i → column_at (origin + below) i b ≤ c.shape.columns
       → place rows i b ≡ pos (number_at c (first + b - below) y (column_within c.shape.columns (column_at (origin + below) i b)))
-  pub none : (i b : ℕ) → i < 64 → b < 8 → first + b < below → place rows i b ≡ pos 0
+  pub none : (i b : ℕ) → i < 64 → b < 8 → least ≤ b → first + b < below → place rows i b ≡ pos 0
 
 -- what a wavefront has before its first step: the offsets here and in the row above, the central differences of the bands and of those below them, and the weights
 pub record AreFilled (q : ℕ) (f : WaveForm) (c : Image) (bands : List PredictorState) (first y origin : ℕ) (above numbers lower own weights : List (List ℤ))

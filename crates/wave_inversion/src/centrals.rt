@@ -62,8 +62,8 @@ pub(crate) fn fill_central_lines(
     above: &[[i16; 64]; 8],
     out: &mut [[i16; 64]; 8],
 )
-    requires numbers_in { AreOffsetLines form.greatest numbers.now }
-    requires above_in { AreOffsetLines form.greatest above.now }
+    requires numbers_in { AreOffsetLines least form.greatest numbers.now }
+    requires above_in { AreOffsetLines least form.greatest above.now }
     ensures values { (b i : ℕ) → b < 8 → least ≤ b → 1 ≤ i → i < 63
         → place out.new b i ≡ pos 4 *ℤ place numbers.now b i -ℤ sum_along form.column (line_of numbers.now b) (line_of above.now b) i }
     ensures none { (b i : ℕ) → b < 8 → i < 64 → b < least → place out.new b i ≡ pos 0 }
@@ -84,8 +84,8 @@ fn put_central_line(
     out: &mut [[i16; 64]; 8],
 )
     requires line { b < 8 }
-    requires numbers_in { AreOffsetLines form.greatest numbers.now }
-    requires above_in { AreOffsetLines form.greatest above.now }
+    requires numbers_in { AreOffsetLines least form.greatest numbers.now }
+    requires above_in { AreOffsetLines least form.greatest above.now }
     ensures values { (i : ℕ) → least ≤ b → 1 ≤ i → i < 63
         → place out.new b i ≡ pos 4 *ℤ place numbers.now b i -ℤ sum_along form.column (line_of numbers.now b) (line_of above.now b) i }
     ensures none { (i : ℕ) → i < 64 → b < least → place out.new b i ≡ pos 0 }

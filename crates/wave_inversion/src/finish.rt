@@ -122,10 +122,8 @@ fn advance<const Q: usize>(band: &mut Band, weights: &[i32; MOST_COMPONENTS], co
     ensures moved { MovesBy count band.old band.new }
     ensures weights { band.new.weights ≡ take (length band.old.weights) weights.now }
 {
-    let mut own = band.weights;
-    copy_first::<Q>(weights, &mut own);
     band.next += count as u64;
-    band.weights = own;
+    copy_first::<Q>(weights, &mut band.weights);
 }
 
 /// Writes the first 2·`Q` weights.

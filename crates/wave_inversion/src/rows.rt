@@ -12,33 +12,33 @@ use cube_core::cube::Cube;
 use lanes::turn::turn;
 use predict_core::lines::clear_line;
 
-/// Writes 64 rows of eight lanes: in row i, lane b has the offset at column `origin + below + i - 7 - b` of row `y` of the band that is
-/// `below` bands below band `first + b`, and after the last column that of the last one once more. It has 0 where there is no such band or
-/// column. Lanes before number `least` are left out.
+/// Writes 64 rows of eight lanes: in row i, lane b has the offset at column `origin + i - 7 - b` of row `y` of band `first + b`, and after
+/// the last column that of the last one once more. It has 0 where there is no such column.
 pub(crate) fn fill_rows(
     cube: &Cube,
     first: usize,
-    below: usize,
-    least: usize,
     y: u32,
     origin: usize,
     lines: &mut [[i16; 64]; 8],
     rows: &mut [[i16; 8]; 64],
 )
-    requires below { below ≤ 8 }
     requires bands { first + 8 ≤ cube.now.shape.bands }
     requires row { y < cube.now.shape.rows }
     requires some { 0 < cube.now.shape.columns }
     requires origin { origin ≤ 65536 }
     requires bits { cube.now.kind.bits ≤ 12 }
-    ensures numbers { AreRowsOf cube.now first below least y origin rows.new }
+    ensures numbers { AreRowsOf cube.now first 0 0 y origin rows.new }
     ensures within { AreOffsetRows (pos (2 ^ cube.now.kind.bits) -ℤ pos 1) rows.new }
 {
-    fill_lines(cube, first, below, least, y, origin, lines);
+    fill_lines(cube, first, 0, 0, y, origin, lines);
     turn(lines, rows);
 }
 
-/// Writes eight lines of 64 numbers: line b has those that `fill_rows` writes into lane b, row after row.
+/// Writes lines of 64 numbers, from number `least` to the eighth: line b has the offsets of the band that is `below` bands below band
+/// `first + b`, at place i that at column `origin + below + i - 7 - b` of row `y`, and after the last column that of the last one once
+/// more. It has 0 where there is no such band or column.
+// Inlined it would be there four times for each number of pairs.
+#[inline(never)]
 pub(crate) fn fill_lines(
     cube: &Cube,
     first: usize,
@@ -49,26 +49,26 @@ pub(crate) fn fill_lines(
     lines: &mut [[i16; 64]; 8],
 )
     requires below { below ≤ 8 }
+    requires least { least ≤ 8 }
     requires bands { first + 8 ≤ cube.now.shape.bands }
     requires row { y < cube.now.shape.rows }
     requires some { 0 < cube.now.shape.columns }
     requires origin { origin ≤ 65536 }
     requires bits { cube.now.kind.bits ≤ 12 }
     ensures numbers { AreLinesOf cube.now first below least y origin lines.new }
-    ensures within { AreOffsetLines (pos (2 ^ cube.now.kind.bits) -ℤ pos 1) lines.new }
+    ensures within { AreOffsetLines least (pos (2 ^ cube.now.kind.bits) -ℤ pos 1) lines.new }
 {
     cube.prove_is_cube();
-    for b in 0..8usize {
-        fill_line(cube, first + b, below, least, y, origin, b, lines);
+    for b in least..8 {
+        fill_line(cube, first + b, below, y, origin, b, lines);
     }
 }
 
-/// Writes line `b`: that of the band that is `below` bands below band `z`, if b is at least `least`.
+/// Writes line `b`: that of the band that is `below` bands below band `z`.
 fn fill_line(
     cube: &Cube,
     z: usize,
     below: usize,
-    least: usize,
     y: u32,
     origin: usize,
     b: usize,
@@ -81,14 +81,14 @@ fn fill_line(
     requires some { 0 < cube.now.shape.columns }
     requires origin { origin ≤ 65536 }
     requires bits { cube.now.kind.bits ≤ 12 }
-    ensures numbers { (i : ℕ) → i < 64 → least ≤ b → below ≤ z → 7 + b ≤ origin + below + i → column_at (origin + below) i b ≤ cube.now.shape.columns
+    ensures numbers { (i : ℕ) → i < 64 → below ≤ z → 7 + b ≤ origin + below + i → column_at (origin + below) i b ≤ cube.now.shape.columns
         → place lines.new b i ≡ pos (number_at cube.now (z - below) y (column_within cube.now.shape.columns (column_at (origin + below) i b))) }
     ensures none { (i : ℕ) → i < 64 → z < below → place lines.new b i ≡ pos 0 }
     ensures within { (i : ℕ) → i < 64 → (pos 0 ≤ℤ place lines.new b i) × (place lines.new b i ≤ℤ (pos (2 ^ cube.now.kind.bits) -ℤ pos 1)) }
     ensures others { (k i : ℕ) → k ≢ b → place lines.new k i ≡ place lines.old k i }
 {
     cube.prove_is_cube();
-    if z < below || b < least {
+    if z < below {
         clear_line(&mut lines[b]);
     } else {
         let row = cube.row((z - below) as u32, y);
@@ -97,6 +97,8 @@ fn fill_line(
 }
 
 /// Writes a row from column `origin - back` on, and after its last number this once more. It writes zeros where there is no column.
+// Among the steps of `fill_lines` the compiler finds the places of all lines anew.
+#[inline(never)]
 fn skew(row: &[u16], origin: usize, back: usize, line: &mut [i16; 64])
     requires back { back < 15 }
     requires origin { origin ≤ 65544 }
@@ -159,9 +161,26 @@ fn put_eight(row: &[u16], from: usize, first: usize, line: &mut [i16; 64])
     ensures numbers { (i : ℕ) → i < 8 → lane line.new (first + i) ≡ pos (slice_index row.now (from + i)) }
     ensures others { (i : ℕ) → (first ≤ i → first + 8 ≤ i) → lane line.new i ≡ lane line.old i }
 {
+    // All are read before any is written, so that the compiler need not ask whether they are the same.
+    let numbers = eight_at(row, from);
     for j in 0..8usize {
-        line[first + j] = row[from + j] as i16;
+        line[first + j] = numbers[j];
     }
+}
+
+/// Returns eight numbers of a row, from column `from` on.
+#[inline(always)]
+fn eight_at(row: &[u16], from: usize) -> [i16; 8]
+    requires columns { from + 8 ≤ length row.now }
+    requires few { length row.now ≤ 65536 }
+    requires small { (x : ℕ) → x < length row.now → slice_index row.now x < 2 ^ 12 }
+    ensures { (i : ℕ) → i < 8 → lane result i ≡ pos (slice_index row.now (from + i)) }
+{
+    let mut numbers = [0i16; 8];
+    for j in 0..8usize {
+        numbers[j] = row[from + j] as i16;
+    }
+    numbers
 }
 
 /// `put_numbers`, a number at a time.

@@ -122,29 +122,11 @@ fn fill_room<const Q: usize>(
     if !fill_weights::<Q>(&bands[first..first + 8], &mut room.weights) {
         return false;
     }
-    fill_rows(
-        cube,
-        first,
-        0,
-        0,
-        y,
-        origin,
-        &mut room.lines,
-        &mut room.numbers,
-    );
-    fill_rows(
-        cube,
-        first,
-        0,
-        0,
-        y - 1,
-        origin,
-        &mut room.lines,
-        &mut room.above,
-    );
+    let lines = &mut room.lines;
+    fill_rows(cube, first, y, origin, lines, &mut room.numbers);
+    fill_rows(cube, first, y - 1, origin, lines, &mut room.above);
     // No component is of a band further below than the previous ones.
     let least = 8 - form.previous;
-    let lines = &mut room.lines;
     let above = &mut room.lines_above;
     fill_lines(cube, first, 8, least, y, origin, lines);
     fill_lines(cube, first, 8, least, y - 1, origin, above);

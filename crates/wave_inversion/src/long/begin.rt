@@ -172,15 +172,47 @@ fn invert_by<const Q: usize>(form: LongForm, stretch: Stretch, room: &mut LongWa
         → AreInStep Q p s d first y origin last n stretch.from room.old.numbers room.old.own room.old.weights
         → AreInStep Q p s d first y origin last n stretch.to room.new.numbers room.new.own room.new.weights }
 {
+    if form.reduced {
+        invert_in_mode::<Q, true>(form, stretch, room);
+    } else {
+        invert_in_mode::<Q, false>(form, stretch, room);
+    }
+}
+
+/// `invert_by` in one mode.
+fn invert_in_mode<const Q: usize, const REDUCED: bool>(
+    form: LongForm,
+    stretch: Stretch,
+    room: &mut LongWaveRoom,
+)
+    requires mode { form.reduced ≡ REDUCED }
+    requires few { Q ≤ 9 }
+    requires above_in { AreOffsetRows form.greatest room.old.above }
+    requires numbers_in { AreOffsetRows form.greatest room.old.numbers }
+    requires lower_in { AreRowsBelow (2 ^ (form.step.bits + 2)) room.old.lower }
+    requires own_in { AreRowsBelow (2 ^ (form.step.bits + 2)) room.old.own }
+    requires weights_in { (b : ℕ) → b < 8 → AllWithin (2 ^ (form.step.omega + 2)) (weights_of Q b room.old.weights) }
+    ensures above { room.new.above ≡ room.old.above }
+    ensures lower { room.new.lower ≡ room.old.lower }
+    ensures ends { room.new.ends ≡ room.old.ends }
+    ensures numbers_in { AreOffsetRows form.greatest room.new.numbers }
+    ensures own_in { AreRowsBelow (2 ^ (form.step.bits + 2)) room.new.own }
+    ensures weights_in { (b : ℕ) → b < 8 → AllWithin (2 ^ (form.step.omega + 2)) (weights_of Q b room.new.weights) }
+    ensures inverted { (p : Parameters) (s : ℕ → Constants) (d : Image) (first y origin last n : ℕ)
+        → AreLanes Q (long_form form) p s d first y origin last room.old.above room.old.lower
+        → stretch.to ≤ last → (n ≤ 8) × (n + 7 ≤ origin + stretch.from)
+        → AreInStep Q p s d first y origin last n stretch.from room.old.numbers room.old.own room.old.weights
+        → AreInStep Q p s d first y origin last n stretch.to room.new.numbers room.new.own room.new.weights }
+{
     let (above, lower) = (&room.above, &room.lower);
     let (numbers, own) = (&mut room.numbers, &mut room.own);
     let (components, weights) = (&mut room.components, &mut room.weights);
     if form.step.exponent < 0 {
-        invert_places::<Q, true>(
+        invert_places::<Q, REDUCED, true>(
             form, stretch, above, lower, numbers, own, components, weights,
         );
     } else {
-        invert_places::<Q, false>(
+        invert_places::<Q, REDUCED, false>(
             form, stretch, above, lower, numbers, own, components, weights,
         );
     }

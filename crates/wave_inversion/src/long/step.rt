@@ -19,9 +19,9 @@ use band_lanes::pairs::MOST_PAIRS;
 ///
 /// Row i of `numbers` has the offset of each band that was found at step i, or from `k` on its mapped residual there; `above` has the
 /// offsets of the row above at the same columns. The central differences of the bands are `own`, and those of the eight bands below them
-/// `lower`. Each weight is in its range. `RAISED` says whether ρ is negative.
+/// `lower`. Each weight is in its range. `REDUCED` says whether the mode is reduced, and `RAISED` whether ρ is negative.
 #[inline(always)]
-pub(crate) fn invert_place<const Q: usize, const RAISED: bool>(
+pub(crate) fn invert_place<const Q: usize, const REDUCED: bool, const RAISED: bool>(
     form: LongForm,
     k: usize,
     above: &[[i32; 8]; 64],
@@ -37,6 +37,7 @@ pub(crate) fn invert_place<const Q: usize, const RAISED: bool>(
     requires numbers_in { AreOffsetRows form.greatest numbers.old }
     requires lower_in { AreRowsBelow (2 ^ (form.step.bits + 2)) lower.now }
     requires own_in { AreRowsBelow (2 ^ (form.step.bits + 2)) own.old }
+    requires mode { form.reduced ≡ REDUCED }
     requires raised { RAISED ≡ true → form.step.exponent ≤ℤ negsuc 0 }
     requires lowered { RAISED ≡ false → pos 0 ≤ℤ form.step.exponent }
     requires weights_in { (b : ℕ) → b < 8 → AllWithin (2 ^ (form.step.omega + 2)) (weights_of Q b weights.old) }
@@ -53,7 +54,7 @@ pub(crate) fn invert_place<const Q: usize, const RAISED: bool>(
         differences(&around.north_west, &sums),
     ];
     put_components::<Q>(
-        form.reduced,
+        REDUCED,
         form.previous,
         &directions,
         lower,

@@ -20,7 +20,7 @@ use band_lanes::pairs::MOST_PAIRS;
 /// The first `n` lanes are those that have begun. The weights are kept in a copy of their own, so that the compiler can keep them in
 /// registers.
 #[inline(never)]
-pub(crate) fn invert_places<const Q: usize, const RAISED: bool>(
+pub(crate) fn invert_places<const Q: usize, const REDUCED: bool, const RAISED: bool>(
     form: LongForm,
     stretch: Stretch,
     above: &[[i32; 8]; 64],
@@ -35,6 +35,7 @@ pub(crate) fn invert_places<const Q: usize, const RAISED: bool>(
     requires numbers_in { AreOffsetRows form.greatest numbers.old }
     requires lower_in { AreRowsBelow (2 ^ (form.step.bits + 2)) lower.now }
     requires own_in { AreRowsBelow (2 ^ (form.step.bits + 2)) own.old }
+    requires mode { form.reduced ≡ REDUCED }
     requires raised { RAISED ≡ true → form.step.exponent ≤ℤ negsuc 0 }
     requires lowered { RAISED ≡ false → pos 0 ≤ℤ form.step.exponent }
     requires weights_in { (b : ℕ) → b < 8 → AllWithin (2 ^ (form.step.omega + 2)) (weights_of Q b weights.old) }
@@ -48,7 +49,7 @@ pub(crate) fn invert_places<const Q: usize, const RAISED: bool>(
 {
     let mut working = *weights;
     for k in stretch.from..stretch.to {
-        invert_place::<Q, RAISED>(
+        invert_place::<Q, REDUCED, RAISED>(
             form,
             k,
             above,

@@ -37,11 +37,11 @@ module _ (g : given.Over) (c : After-fill_rows-2 g) where
 
 pub fill_central_lines-requires-clause-numbers_in : goal.fill_central_lines-requires-clause-numbers_in
 fill_central_lines-requires-clause-numbers_in g c =
-    subst (λ n. AreOffsetLines n c.fill_lines.new.lines) (greatest_is c.args.form _ c.requires.form.bits) c.fill_lines.ensures.within
+    subst (λ n. AreOffsetLines (8 - c.args.form.previous) n c.fill_lines.new.lines) (greatest_is c.args.form _ c.requires.form.bits) c.fill_lines.ensures.within
 
 pub fill_central_lines-requires-clause-above_in : goal.fill_central_lines-requires-clause-above_in
 fill_central_lines-requires-clause-above_in g c =
-    subst (λ n. AreOffsetLines n c.fill_lines-2.new.lines) (greatest_is c.args.form _ c.requires.form.bits) c.fill_lines-2.ensures.within
+    subst (λ n. AreOffsetLines (8 - c.args.form.previous) n c.fill_lines-2.new.lines) (greatest_is c.args.form _ c.requires.form.bits) c.fill_lines-2.ensures.within
 
 pub fill_centrals-requires-clause-numbers_in : goal.fill_centrals-requires-clause-numbers_in
 fill_centrals-requires-clause-numbers_in g c = numbers_in g (goal.at.fill_centrals-requires-clause-numbers_in g c).After-fill_rows-2

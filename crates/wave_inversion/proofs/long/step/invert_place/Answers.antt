@@ -1,4 +1,4 @@
-use Rattle.std.proofs.Common.{◌≡◌, ◌∙◌, ◌+◌, ◌-◌, ◌*◌, ◌^◌, ◌<◌, ◌≤◌, ℕ, ℤ, pos, ◌-ℤ◌, ◌*ℤ◌, ◌≤ℤ◌, unsigned_abs, List, [], ◌∷◌, length, ap, inl, inr, arith, refl, rules, SFits, w32, to_z-of_z, le_trans, pow_mono}
+use Rattle.std.proofs.Common.{◌≡◌, not, nat_eq, ◌∙◌, ◌+◌, ◌-◌, ◌*◌, ◌^◌, ◌<◌, ◌≤◌, ℕ, ℤ, pos, ◌-ℤ◌, ◌*ℤ◌, ◌≤ℤ◌, unsigned_abs, List, [], ◌∷◌, length, ap, inl, inr, arith, refl, rules, SFits, w32, to_z-of_z, le_trans, pow_mono}
 use Rattle.std.proofs.Common.{get_or-set_same, get_or-set_other}
 use Rattle.std.proofs.lemmas.Bool.{cases_eq}
 use Rattle.std.proofs.lemmas.Int.{ints}
@@ -55,12 +55,12 @@ module _ (g : given.Over) (c : After-put_components g) where
       (λ b l. one (2 * j) b l (c.put_components.ensures.even j b m l)) (λ b l. one (2 * j + 1) b l (c.put_components.ensures.odd j b m l)) k
     where
       one : (index b : ℕ) → b < 8 → {v : ℤ}
-          → v ≡ component_in c.args.form.reduced c.args.form.previous (c.differences.result ∷ c.differences-2.result ∷ c.differences-3.result ∷ [])
+          → v ≡ component_in (not (nat_eq g.row.REDUCED 0)) c.args.form.previous (c.differences.result ∷ c.differences-2.result ∷ c.differences-3.result ∷ [])
           c.args.lower.now c.args.own.now c.args.k index b
           → unsigned_abs v ≤ limit
       one index b l e =
           let k = c.requires.step in
-          let small = component_below c.args.form.reduced c.args.form.previous (c.differences.result ∷ c.differences-2.result ∷ c.differences-3.result ∷ []) c.args.lower.now
+          let small = component_below (not (nat_eq g.row.REDUCED 0)) c.args.form.previous (c.differences.result ∷ c.differences-2.result ∷ c.differences-3.result ∷ []) c.args.lower.now
           c.args.own.now c.args.k index b limit some (omega (arith, k.0), omega (arith, k.1)) c.args.form.previous_in l
           (three (λ i. unsigned_abs (place (c.differences.result ∷ c.differences-2.result ∷ c.differences-3.result ∷ []) i b) < limit)
           (rw (north b l) (difference_small b l _ (c.requires.above_in c.args.k b (omega (arith, k.1)) l)))
@@ -97,8 +97,8 @@ returns-clause-stepped g c =
       components = c.put_components.new.components;
       part = λ b. lane c.predict_place-parts.result b;
       long = c.put_components.ensures.long;
-      even = c.put_components.ensures.even;
-      odd = c.put_components.ensures.odd;
+      even = rw c.requires.mode c.put_components.ensures.even;
+      odd = rw c.requires.mode c.put_components.ensures.odd;
       predicted = λ b l. inl (c.predict_place-parts.ensures.value b l);
       number = λ b l. rw offsets (found.value b l ∙ rw (sum_is g d b l) refl);
       central = λ b l. rw (offsets, central) (c.differences-central.ensures b l ∙ rw (sum_is g d b l) refl);
