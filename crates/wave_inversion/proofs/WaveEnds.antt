@@ -47,17 +47,17 @@ ends_before columns origin last b h some = omega (arith, h, some)
 -- what is found in step `last`
 module _ {q : ℕ} {p : Params} {s : ℕ → Settings} {d : Image} {first y origin last columns : ℕ} {numbers own weights : List (List ℤ)}
     (now : AreInStep q p s d first y origin last 8 last numbers own weights) (same : columns ≡ d.shape.columns) where
-  pub offsets_found : (b i : ℕ) → b < 8 → first_step origin b ≤ i → i < last → column_at origin i b < columns
+  pub offsets_found : (b i : ℕ) → b < 8 → first + b < d.shape.bands → first_step origin b ≤ i → i < last → column_at origin i b < columns
       → place numbers i b ≡ pos (number_at d (first + b) y (column_at origin i b))
-  offsets_found b i fits low high right = now.offsets i b (omega (arith, low)) high fits (omega (arith, low)) (omega (arith, right, same))
+  offsets_found b i fits exists low high right = now.offsets i b (omega (arith, low)) high fits exists (omega (arith, low)) (omega (arith, right, same))
 
-  pub weights_found : (ends : ℕ → List (List ℤ)) (b n : ℕ) → b < 8 → origin + 2 ≤ columns → (s b).count ≡ n
+  pub weights_found : (ends : ℕ → List (List ℤ)) (b n : ℕ) → b < 8 → first + b < d.shape.bands → origin + 2 ≤ columns → (s b).count ≡ n
       → (b < last - (last - ended columns origin last) → column_at origin (last - ended columns origin last + b) b ≤ d.shape.columns
       → AreWeightsAt p (s b).predictor d (first + b) (y * d.shape.columns + column_at origin (last - ended columns origin last + b) b)
       (take (s b).count (weights_of q b (ends b))))
       → take n (weights_of q b (rows_at_end (ended columns origin last) ends weights b))
       ≡ weight_vector p d (first + b) (y * columns + end_column columns origin last b)
-  weights_found ends b n fits inside many kept =
+  weights_found ends b n fits exists inside many kept =
       at_end (λ (rows : List (List ℤ)). take n (weights_of q b rows) ≡ weight_vector p d (first + b) (y * columns + end_column columns origin last b))
       (ended columns origin last) b ends weights
       (λ before.
@@ -66,7 +66,7 @@ module _ {q : ℕ} {p : Params} {s : ℕ → Settings} {d : Image} {first y orig
       ∙ ap₂ (λ (n x : ℕ). weight_vector p d (first + b) (y * n + x)) (sym same) at)
       (λ after.
       let at = ends_before columns origin last b after (omega (arith, inside)) in
-      ap (λ (n : ℕ). take n (weights_of q b weights)) (sym many) ∙ (now.weights_at b fits (omega (arith, at, inside, same))).weights
+      ap (λ (n : ℕ). take n (weights_of q b weights)) (sym many) ∙ (now.weights_at b fits exists (omega (arith, at, inside, same))).weights
       ∙ ap₂ (λ (n x : ℕ). weight_vector p d (first + b) (y * n + x)) (sym same) at)
 
 -- the place of a band that has come to its end in a piece, or to where it begins in one

@@ -43,7 +43,7 @@ use Rattle.wave_inversion.proofs.WaveOffsets.{sum_told, central_told, directions
 -- the place of a lane that has begun, in a step up to its last column
 module _ {q : ℕ} {f : WaveForm} {p : Params} {s : ℕ → Settings} {d : Image} {first y origin last n : ℕ} {above lower numbers own weights : List (List ℤ)}
     (lanes : AreLanes q f p s d first y origin last above lower) (k : ℕ) (step : (8 ≤ k) × (k < last)) (begun : (n ≤ 8) × (n + 7 ≤ origin + k))
-    (now : AreInStep q p s d first y origin last n k numbers own weights) (b : ℕ) (mine : b < n) (right : column_at origin k b < d.shape.columns) where
+    (now : AreInStep q p s d first y origin last n k numbers own weights) (b : ℕ) (mine : b < n) (exists : first + b < d.shape.bands) (right : column_at origin k b < d.shape.columns) where
   abbrev x : ℕ
   x = column_at origin k b
 
@@ -57,10 +57,10 @@ module _ {q : ℕ} {f : WaveForm} {p : Params} {s : ℕ → Settings} {d : Image
   left = omega (arith, mine, begun.1)
 
   there : IsPlace d.shape z y x
-  there = record { band = (lanes.bands b fits).1; row = lanes.row.1; column = right }
+  there = record { band = exists; row = lanes.row.1; column = right }
 
   band : (s b).band ≡ z
-  band = (lanes.bands b fits).0
+  band = lanes.bands b fits
 
   made : (s b).predictor ≡ (s 0).predictor
   made = lanes.predictor b fits
@@ -91,7 +91,7 @@ module _ {q : ℕ} {f : WaveForm} {p : Params} {s : ℕ → Settings} {d : Image
         sym (lagged_low lower own k lag b low) ∙ there ∙ rw at (low_is lag few used low))
     | inr high ↦
         (let at : column_at origin (k - lag) (b - lag) ≡ x = omega (arith, high, few, step.0) in
-        let there = now.centrals (k - lag) (b - lag) (omega (arith, high, step.0, fits)) (omega (arith, some, step.0)) (omega (arith, mine)) (rw at left) (rw at right) in
+        let there = now.centrals (k - lag) (b - lag) (omega (arith, high, step.0, fits)) (omega (arith, some, step.0)) (omega (arith, mine)) (omega (arith, exists)) (rw at left) (rw at right) in
         sym (lagged_high lower own k lag b high) ∙ there ∙ rw at (high_is lag used high))
   ]
 
@@ -103,21 +103,21 @@ module _ {q : ℕ} {f : WaveForm} {p : Params} {s : ℕ → Settings} {d : Image
   before = omega (arith, step.0)
 
   west_is : place numbers (k - 1) b ≡ pos (number_at d z y (column_at origin (k - 1) b))
-  west_is = now.offsets (k - 1) b (omega (arith, step.0)) (omega (arith, step.0)) mine (omega (arith, left, step.0)) (omega (arith, left, right, step.0))
+  west_is = now.offsets (k - 1) b (omega (arith, step.0)) (omega (arith, step.0)) mine exists (omega (arith, left, step.0)) (omega (arith, left, right, step.0))
 
   north_west_is : place above (k - 1) b ≡ pos (number_at d z (y - 1) (column_at origin (k - 1) b))
-  north_west_is = lanes.north (k - 1) b (omega (arith, step.1)) fits (omega (arith, left, step.0)) (omega (arith, left, right, step.0))
+  north_west_is = lanes.north (k - 1) b (omega (arith, step.1)) fits exists (omega (arith, left, step.0)) (omega (arith, left, right, step.0))
       ∙ ap (λ (n : ℕ). pos (number_at d z (y - 1) n)) (omega (arith, left, right, step.0))
 
   north_is : place above k b ≡ pos (number_at d z (y - 1) x)
-  north_is = lanes.north k b (omega (arith, step.1)) fits (omega (arith, left)) (omega (arith, right))
+  north_is = lanes.north k b (omega (arith, step.1)) fits exists (omega (arith, left)) (omega (arith, right))
       ∙ ap (λ (n : ℕ). pos (number_at d z (y - 1) n)) (omega (arith, right))
 
   -- the local sum of offsets
   sum_is : sum_at f.column numbers above k b ≡ offset_sum (s b).predictor d lanes.cube z y x there lanes.row.0 left
   sum_is =
       let w = west_is in let nw = north_west_is in let n = north_is in
-      let ne = lanes.north (k + 1) b (omega (arith, step.1)) fits (omega (arith, left)) (omega (arith, left, right)) in
+      let ne = lanes.north (k + 1) b (omega (arith, step.1)) fits exists (omega (arith, left)) (omega (arith, left, right)) in
       let east : column_at origin (k + 1) b ≡ x + 1 = omega (arith, left) in
       rw (w, nw, n, ne, before, east, lanes.column, made) refl
 
@@ -229,14 +229,14 @@ module _ {q : ℕ} {f : WaveForm} {p : Params} {s : ℕ → Settings} {d : Image
     -- the residual there is that of the sample by this prediction
     number_told : mapped d.kind (scaled_by_difference d.kind part whole) (sample_at d z y x) ≡ mapped_residual p d z t
     number_told =
-        let at = now.weights_at b mine (omega (arith, right)) in
+        let at = now.weights_at b mine exists (omega (arith, right)) in
         residual_by p (s b).predictor d z t y x (take (s b).count ws) at.predictor after_start refl there.column at.weights _
         (ap (λ v. mapped d.kind v (sample_at d z y x)) (sym scaled))
 
     offset_is : place numbers' k b ≡ pos (number_at d z y x)
     offset_is =
         let told = sum_told (s b).predictor d lanes.cube z y x there lanes.row.0 left in
-        stepped.number b fits ∙ ap (offset_by f.greatest part (sum_at f.column numbers above k b)) (now.residuals k b (omega arith) step.1 fits left right)
+        stepped.number b fits ∙ ap (offset_by f.greatest part (sum_at f.column numbers above k b)) (now.residuals k b (omega arith) step.1 fits exists left right)
         ∙ offset_found d z y x f.greatest part (sum_at f.column numbers above k b) whole (mapped_residual p d z t) lanes.cube there lanes.greatest
         (rw sum_is (sym told)) number_told
 
@@ -246,7 +246,7 @@ module _ {q : ℕ} {f : WaveForm} {p : Params} {s : ℕ → Settings} {d : Image
 
     weights_next : take (s b).count (weights_of q b weights') ≡ weight_vector p d z (t + 1)
     weights_next =
-        let at = now.weights_at b mine (omega (arith, right)) in
+        let at = now.weights_at b mine exists (omega (arith, right)) in
         let next = place_next q (s b) d y x lanes.cube there_banded (omega (arith, left)) (lanes.columns b fits) (lanes.enough b fits) (lanes.register b fits)
         components (rw band vector_is) ws ws_long ws_within part predicted (weights_of q b weights') f.omega f.exponent (place own' k b) first_step.omega_is
         first_step.exponent_is (rw band central_is) (stepped.updated b fits) in
@@ -261,21 +261,21 @@ pub step_more : {q : ℕ} {f : WaveForm} {p : Params} {s : ℕ → Settings} {d 
     → ((b : ℕ) → b < 8 → AllWithin (2 ^ (f.omega + 2)) (weights_of q b weights))
     → AreInStep q p s d first y origin last n k numbers own weights → AreInStep q p s d first y origin last n (k + 1) numbers' own' weights'
 step_more {q} {f} {p} {s} {d} {first} {y} {origin} {last} {n} {k} {numbers = numbers} {own = own} {numbers' = numbers'} {own' = own'} near lanes step begun stepped long within now = record {
-  offsets = λ i b low high mine left right. elim (cases_eq i k) [
-    | inl here ↦ rw here (offset_is lanes k step begun now b mine (rw here at right) stepped near long (within b (omega (arith, mine, begun.0))))
-    | inr apart ↦ stepped.numbers_kept i b apart ∙ now.offsets i b low (omega (arith, high, apart)) mine left right
+  offsets = λ i b low high mine exists left right. elim (cases_eq i k) [
+    | inl here ↦ rw here (offset_is lanes k step begun now b mine exists (rw here at right) stepped near long (within b (omega (arith, mine, begun.0))))
+    | inr apart ↦ stepped.numbers_kept i b apart ∙ now.offsets i b low (omega (arith, high, apart)) mine exists left right
   ];
-  residuals = λ i b low high fits left right. stepped.numbers_kept i b (λ e. omega (arith, e, low)) ∙ now.residuals i b (omega (arith, low)) high fits left right;
-  centrals = λ i b low high mine left right. elim (cases_eq i k) [
-    | inl here ↦ rw here (central_is lanes k step begun now b mine (rw here at right) stepped near long (within b (omega (arith, mine, begun.0)))
+  residuals = λ i b low high fits exists left right. stepped.numbers_kept i b (λ e. omega (arith, e, low)) ∙ now.residuals i b (omega (arith, low)) high fits exists left right;
+  centrals = λ i b low high mine exists left right. elim (cases_eq i k) [
+    | inl here ↦ rw here (central_is lanes k step begun now b mine exists (rw here at right) stepped near long (within b (omega (arith, mine, begun.0)))
         ∙ ap (λ (m : Predictor). central_difference m d (first + b) y (column_at origin k b)) (lanes.predictor b (omega (arith, mine, begun.0))))
-    | inr apart ↦ stepped.own_kept i b apart ∙ now.centrals i b low (omega (arith, high, apart)) mine left right
+    | inr apart ↦ stepped.own_kept i b apart ∙ now.centrals i b low (omega (arith, high, apart)) mine exists left right
   ];
-  weights_at = λ b mine bound.
+  weights_at = λ b mine exists bound.
       let next : column_at origin (k + 1) b ≡ column_at origin k b + 1 = omega (arith, mine, begun.1) in
       let right : column_at origin k b < d.shape.columns = omega (arith, next, bound) in record {
-        predictor = (now.weights_at b mine (omega (arith, right))).predictor;
-        weights = weights_next lanes k step begun now b mine right stepped near long (within b (omega (arith, mine, begun.0)))
+        predictor = (now.weights_at b mine exists (omega (arith, right))).predictor;
+        weights = weights_next lanes k step begun now b mine exists right stepped near long (within b (omega (arith, mine, begun.0)))
             ∙ ap (weight_vector p d (first + b)) (next_time (y * d.shape.columns) b next);
       };
 }

@@ -44,7 +44,7 @@ turned_from lines least i b h m l = turned_at lines least i b h m ∙ test b lea
 pub rows_of_lines : {c : Image} {first below least y origin : ℕ} {lines : List (List ℤ)} → AreLinesOf c first below least y origin lines
     → AreRowsOf c first below least y origin (turned lines least)
 rows_of_lines {least = least} {lines = lines} a = record {
-  numbers = λ i b h m used some left right. turned_from lines least i b h m used ∙ a.numbers b i m h used some left right;
+  numbers = λ i b h m used some inside left right. turned_from lines least i b h m used ∙ a.numbers b i m h used some inside left right;
   none = λ i b h m used out. turned_from lines least i b h m used ∙ a.none b i m h used out;
 }
 

@@ -1,5 +1,5 @@
--- A piece of a row of eight bands: what is known before its first step is what its lanes need.
-use Rattle.std.proofs.Common.{◌≡◌, ◌+◌, ◌-◌, ◌*◌, ◌<◌, ◌≤◌, nat_le, ℕ, ℤ, pos, ◌+ℤ◌, ◌-ℤ◌, ◌*ℤ◌, unsigned_abs, Bool, true, false, List, length, take, min, refl, sym, ap, ap₂, ◌∙◌, inl, inr, arith, if◌then◌else◌}
+-- A piece of a row of at most eight bands: what is known before its first step is what its lanes need.
+use Rattle.std.proofs.Common.{◌≡◌, ◌+◌, ◌-◌, ◌*◌, ◌<◌, ◌≤◌, nat_le, ℕ, ℤ, pos, ◌+ℤ◌, ◌-ℤ◌, ◌*ℤ◌, unsigned_abs, Bool, true, false, List, length, take, min, refl, sym, ap, ap₂, subst, ◌∙◌, inl, inr, arith, if◌then◌else◌}
 use Rattle.std.proofs.lemmas.Bool.{cases_lt}
 use Rattle.std.proofs.lemmas.Bool.Decides.{nat_tests}
 use Rattle.std.proofs.lemmas.Int.{ints}
@@ -20,32 +20,14 @@ use Rattle.sample_prediction.specs.declared.predictor.Predictor.{Predictor}
 use Rattle.predict_core.specs.declared.settings.Settings.{Settings}
 use Rattle.predict_core.specs.Following.{PredictorState}
 use Rattle.predict_core.specs.BandLanes.{HasWeights}
-use Rattle.wave_inversion.specs.Inversion.{IsInverting, IsBandInverted, AreAhead, band_at}
+use Rattle.wave_inversion.specs.Inversion.{IsInverting, IsBandInverted, band_at}
 use Rattle.predict_core.specs.Offsets.{number_at}
 use Rattle.wave_inversion.specs.Wave.{sum_by}
 use Rattle.wave_inversion.specs.WaveForms.{WaveForm}
 use Rattle.wave_inversion.specs.WaveLanes.{AreLanes, AreInStep, AreToBegin, column_at, column_within, first_column}
-use Rattle.wave_inversion.specs.WaveRows.{AreFilled}
-use Rattle.wave_inversion.specs.WaveTiles.{IsFormOf, StandAsWave}
+use Rattle.wave_inversion.proofs.WaveBegun.{IsBegun}
 use Rattle.wave_inversion.proofs.WaveForms.{constants_at}
 use Rattle.wave_inversion.proofs.WaveOffsets.{central_told}
-
--- what is known before step 8
-pub record IsBegun (q : ℕ) (f : WaveForm) (c : Image) (bands : List PredictorState) (first y origin last : ℕ) (base : Settings)
-    (above numbers lower own weights : List (List ℤ)) : Type 0 where
-  pub few : q ≤ 9
-  pub pairs : f.pairs ≤ q
-  pub eight : first + 8 ≤ length bands
-  pub row : (0 < y) × (y < c.shape.rows)
-  pub steps : (8 ≤ last) × (last ≤ 63)
-  pub inside : origin + 2 ≤ c.shape.columns
-  pub stand : StandAsWave bands first c.shape.columns y origin
-  pub ahead : AreAhead bands first ((y + 1) * c.shape.columns)
-  pub form : IsFormOf f (band_at bands first).predictor c y
-  pub made : base.predictor ≡ (band_at bands first).predictor
-  pub of-kind : base.range.kind ≡ (band_at bands first).kind
-  pub of-columns : base.columns ≡ (band_at bands first).shape.columns
-  pub filled : AreFilled q f c bands first y origin above numbers lower own weights
 
 module _ {q : ℕ} {f : WaveForm} {c : Image} {bands : List PredictorState} {first y origin last : ℕ} {base : Settings}
     {above numbers lower own weights : List (List ℤ)}
@@ -61,89 +43,99 @@ module _ {q : ℕ} {f : WaveForm} {c : Image} {bands : List PredictorState} {fir
   columns = ap (λ (z : Sizes). z.columns) inv.alike.shape
 
   -- the bands of the wavefront, and the one that stands first
-  within : (b : ℕ) → b < 8 → first + b < p.shape.bands
-  within b fits = omega (arith, k.eight, fits, inv.many)
+  within : (z : ℕ) → z < length bands → z < p.shape.bands
+  within z inside = omega (arith, inside, inv.many)
 
-  band : (b : ℕ) → b < 8 → IsBandInverted p c d (first + b) (band_at bands (first + b))
-  band b fits = inv.each (first + b) (within b fits)
+  bands_are : c.shape.bands ≡ length bands
+  bands_are = ap (λ (z : Sizes). z.bands) shape ∙ sym inv.many
+
+  bands_here : d.shape.bands ≡ length bands
+  bands_here = ap (λ (z : Sizes). z.bands) inv.cube.shape ∙ sym inv.many
+
+  band : (b : ℕ) → first + b < length bands → IsBandInverted p c d (first + b) (band_at bands (first + b))
+  band b exists = inv.each (first + b) (within (first + b) exists)
 
   head : IsBandInverted p c d first (band_at bands first)
-  head = inv.each first (omega (arith, k.eight, inv.many))
+  head = inv.each first (within first k.some)
 
   predictor_is : base.predictor ≡ predictor_of p
   predictor_is = k.made ∙ head.follows.made.predictor
 
-  pub same_made : (b : ℕ) → b < 8 → (band_at bands (first + b)).predictor ≡ base.predictor
-  same_made b fits = (band b fits).follows.made.predictor ∙ sym predictor_is
+  pub same_made : (z : ℕ) → z < length bands → (band_at bands z).predictor ≡ base.predictor
+  same_made z inside = (inv.each z (within z inside)).follows.made.predictor ∙ sym predictor_is
+
+  -- the weights of a band that there is
+  pub has_weights : (b : ℕ) → b < 8 → first + b < length bands → HasWeights q b (band_at bands (first + b)) weights
+  has_weights b fits exists = subst (λ (z : ℕ). HasWeights q b (band_at bands z) weights) (omega (arith, exists)) (k.filled.has b fits)
 
   -- where the image has the samples of d, it has their numbers
   number_same : (z y' x : ℕ) → sample_at c z y' x ≡ sample_at d z y' x → number_at c z y' x ≡ number_at d z y' x
   number_same z y' x same = ap₂ (λ (v : ℤ) (k : SampleKind). unsigned_abs (v -ℤ smin k)) same inv.alike.kind
 
   -- in the k.row above, in all bands up to these
-  done_above : (z x : ℕ) → z < first + 8 → x < c.shape.columns → number_at c z (y - 1) x ≡ number_at d z (y - 1) x
-  done_above z x low fits =
-      let there : IsPlace c.shape z (y - 1) x = record { band = rw shape (omega (arith, low, k.eight, inv.many)); row = omega (arith, k.row); column = fits } in
+  done_above : (z x : ℕ) → z < first + 8 → z < length bands → x < c.shape.columns → number_at c z (y - 1) x ≡ number_at d z (y - 1) x
+  done_above z x low inside fits =
+      let there : IsPlace c.shape z (y - 1) x = record { band = rw shape (within z inside); row = omega (arith, k.row); column = fits } in
       let line = row_fits (y - 1) c.shape.columns y c.shape.columns (omega (arith, k.row.0)) (omega arith) in
-      number_same z (y - 1) x ((inv.each z (omega (arith, low, k.eight, inv.many))).done (y - 1) x there (elim (cases_lt z first) [
+      number_same z (y - 1) x ((inv.each z (within z inside)).done (y - 1) x there (elim (cases_lt z first) [
         | inl below ↦ (let a = k.ahead z below in let more = row_fits (y - 1) c.shape.columns (y + 1) c.shape.columns (omega arith) (omega arith) in
             omega (arith, a, more, fits))
-        | inr not ↦ (let here : first + (z - first) ≡ z = omega (arith, not) in let now = rw here at (k.stand (z - first) (omega (arith, low, not))) in
+        | inr not ↦ (let here : first + (z - first) ≡ z = omega (arith, not) in let now = rw here at (k.stand (z - first) (omega (arith, low, not)) (omega (arith, inside, not))) in
             omega (arith, line, fits, now))
       ]))
 
   -- in the k.row itself, in the bands below
   done_below : (z x : ℕ) → z < first → x < c.shape.columns → number_at c z y x ≡ number_at d z y x
   done_below z x low fits =
-      let there : IsPlace c.shape z y x = record { band = rw shape (omega (arith, low, k.eight, inv.many)); row = k.row.1; column = fits } in
+      let there : IsPlace c.shape z y x = record { band = rw shape (omega (arith, low, k.some, inv.many)); row = k.row.1; column = fits } in
       let line = row_fits y c.shape.columns (y + 1) c.shape.columns (omega arith) (omega arith) in
-      number_same z y x ((inv.each z (omega (arith, low, k.eight, inv.many))).done y x there (let a = k.ahead z low in omega (arith, a, line, fits)))
+      number_same z y x ((inv.each z (omega (arith, low, k.some, inv.many))).done y x there (let a = k.ahead z low in omega (arith, a, line, fits)))
 
   -- and in these as far as each has come
-  done_here : (b x : ℕ) → b < 8 → x < first_column origin b → number_at c (first + b) y x ≡ number_at d (first + b) y x
-  done_here b x fits low =
-      let there : IsPlace c.shape (first + b) y x = record { band = rw shape (within b fits); row = k.row.1; column = omega (arith, low, k.inside) } in
-      number_same (first + b) y x ((band b fits).done y x there (let at = k.stand b fits in omega (arith, at, low)))
+  done_here : (b x : ℕ) → b < 8 → first + b < length bands → x < first_column origin b → number_at c (first + b) y x ≡ number_at d (first + b) y x
+  done_here b x fits exists low =
+      let there : IsPlace c.shape (first + b) y x = record { band = rw shape (within (first + b) exists); row = k.row.1; column = omega (arith, low, k.inside) } in
+      number_same (first + b) y x ((band b exists).done y x there (let at = k.stand b fits exists in omega (arith, at, low)))
 
   -- the offsets of these bands, by their rows
   none : origin + 0 ≡ origin
   none = omega arith
 
-  own_number : (i b : ℕ) → i < 64 → b < 8 → 7 + b ≤ origin + i → column_at origin i b < c.shape.columns
+  own_number : (i b : ℕ) → i < 64 → b < 8 → first + b < length bands → 7 + b ≤ origin + i → column_at origin i b < c.shape.columns
       → place numbers i b ≡ pos (number_at c (first + b) y (column_at origin i b))
-  own_number i b small fits low bound =
+  own_number i b small fits exists low bound =
       let same : first + b - 0 ≡ first + b = omega arith in
-      rw (none, same) at (k.filled.numbers_is.numbers i b small fits (omega arith) (omega arith) (omega (arith, low)) (rw none (omega (arith, bound))))
+      rw (none, same) at (k.filled.numbers_is.numbers i b small fits (omega arith) (omega arith) (omega (arith, exists, bands_are)) (omega (arith, low)) (rw none (omega (arith, bound))))
       ∙ ap (λ (n : ℕ). pos (number_at c (first + b) y n)) (omega (arith, bound))
 
-  above_number : (i b : ℕ) → i < 64 → b < 8 → 7 + b ≤ origin + i → column_at origin i b ≤ c.shape.columns
+  above_number : (i b : ℕ) → i < 64 → b < 8 → first + b < length bands → 7 + b ≤ origin + i → column_at origin i b ≤ c.shape.columns
       → place above i b ≡ pos (number_at d (first + b) (y - 1) (column_within c.shape.columns (column_at origin i b)))
-  above_number i b small fits low bound =
+  above_number i b small fits exists low bound =
       let same : first + b - 0 ≡ first + b = omega arith in
-      rw (none, same) at (k.filled.above_is.numbers i b small fits (omega arith) (omega arith) (omega (arith, low)) (rw none bound))
-      ∙ ap (λ (n : ℕ). pos n) (done_above (first + b) (column_within c.shape.columns (column_at origin i b)) (omega (arith, fits)) (omega (arith, k.inside)))
+      rw (none, same) at (k.filled.above_is.numbers i b small fits (omega arith) (omega arith) (omega (arith, exists, bands_are)) (omega (arith, low)) (rw none bound))
+      ∙ ap (λ (n : ℕ). pos n) (done_above (first + b) (column_within c.shape.columns (column_at origin i b)) (omega (arith, fits)) exists (omega (arith, k.inside)))
 
-  place_of : (z x : ℕ) → z < first + 8 → x < c.shape.columns → IsPlace d.shape z y x
-  place_of z x low fits = rw (← inv.alike.shape) (record { band = rw shape (omega (arith, low, k.eight, inv.many)); row = k.row.1; column = fits })
+  place_of : (z x : ℕ) → z < length bands → x < c.shape.columns → IsPlace d.shape z y x
+  place_of z x inside fits = rw (← inv.alike.shape) (record { band = rw shape (within z inside); row = k.row.1; column = fits })
 
   -- the central differences of the bands themselves before step 8
-  own_central : (i b : ℕ) → b < i → i < 8 → b < 8 → 0 < column_at origin i b → column_at origin i b < c.shape.columns
+  own_central : (i b : ℕ) → b < i → i < 8 → b < 8 → first + b < length bands → 0 < column_at origin i b → column_at origin i b < c.shape.columns
       → place own i b ≡ central_difference base.predictor d (first + b) y (column_at origin i b)
-  own_central i b low high fits left right =
+  own_central i b low high fits exists left right =
       let x : ℕ = column_at origin i b in
       let before : column_at origin (i - 1) b ≡ x - 1 = omega (arith, low) in let after : column_at origin (i + 1) b ≡ x + 1 = omega (arith, left) in
-      let here = own_number i b (omega (arith, high)) fits (omega (arith, left)) right
-      ∙ ap (λ (n : ℕ). pos n) (done_here b x fits (omega (arith, high, left))) in
-      let west = own_number (i - 1) b (omega (arith, high)) fits (omega (arith, left, low)) (omega (arith, right, before))
-      ∙ ap (λ (n : ℕ). pos n) (done_here b (column_at origin (i - 1) b) fits (omega (arith, high, left))) in
-      let north_west = above_number (i - 1) b (omega (arith, high)) fits (omega (arith, left, low)) (omega (arith, right, before)) in
-      let north = above_number i b (omega (arith, high)) fits (omega (arith, left)) (omega (arith, right)) in
-      let north_east = above_number (i + 1) b (omega (arith, high)) fits (omega (arith, left)) (omega (arith, right, after)) in
+      let here = own_number i b (omega (arith, high)) fits exists (omega (arith, left)) right
+      ∙ ap (λ (n : ℕ). pos n) (done_here b x fits exists (omega (arith, high, left))) in
+      let west = own_number (i - 1) b (omega (arith, high)) fits exists (omega (arith, left, low)) (omega (arith, right, before))
+      ∙ ap (λ (n : ℕ). pos n) (done_here b (column_at origin (i - 1) b) fits exists (omega (arith, high, left))) in
+      let north_west = above_number (i - 1) b (omega (arith, high)) fits exists (omega (arith, left, low)) (omega (arith, right, before)) in
+      let north = above_number i b (omega (arith, high)) fits exists (omega (arith, left)) (omega (arith, right)) in
+      let north_east = above_number (i + 1) b (omega (arith, high)) fits exists (omega (arith, left)) (omega (arith, right, after)) in
       let at : column_within c.shape.columns x ≡ x = omega (arith, right) in
       let at_west : column_within c.shape.columns (x - 1) ≡ x - 1 = omega (arith, right) in
       k.filled.own_is i b (omega (arith, low)) high fits
       ∙ rw (here, west, north_west, north, north_east, before, after, at, at_west, columns, k.form.column, ← k.made)
-      (sym (central_told base.predictor d inv.cube.cube (first + b) y x (place_of (first + b) x (omega (arith, fits)) right) k.row.0 left))
+      (sym (central_told base.predictor d inv.cube.cube (first + b) y x (place_of (first + b) x exists right) k.row.0 left))
 
   -- and those of the bands below
   module _ (i b : ℕ) (low : 1 ≤ i) (high : i < 63) (fits : b < 8) where
@@ -172,10 +164,10 @@ module _ {q : ℕ} {f : WaveForm} {c : Image} {bands : List PredictorState} {fir
     lower_some : 8 ≤ f.previous + b → 8 ≤ first + b → 0 < x → x < c.shape.columns → place lower i b ≡ central_difference base.predictor d (first + b - 8) y x
     lower_some used some left right =
         let z : ℕ = first + b - 8 in
-        let number = λ (j : ℕ) (h : j < 64) (m : 7 + b ≤ origin + 8 + j) (l : column_at (origin + 8) j b ≤ c.shape.columns). k.filled.lower_numbers_is.numbers j b h fits (omega (arith, used)) some m l
+        let number = λ (j : ℕ) (h : j < 64) (m : 7 + b ≤ origin + 8 + j) (l : column_at (origin + 8) j b ≤ c.shape.columns). k.filled.lower_numbers_is.numbers j b h fits (omega (arith, used)) some (omega (arith, fits, k.some, bands_are)) m l
         ∙ ap (λ (n : ℕ). pos n) (done_below z (column_within c.shape.columns (column_at (origin + 8) j b)) (omega (arith, some, fits)) (omega (arith, k.inside))) in
-        let number_above = λ (j : ℕ) (h : j < 64) (m : 7 + b ≤ origin + 8 + j) (l : column_at (origin + 8) j b ≤ c.shape.columns). k.filled.lower_above_is.numbers j b h fits (omega (arith, used)) some m l
-        ∙ ap (λ (n : ℕ). pos n) (done_above z (column_within c.shape.columns (column_at (origin + 8) j b)) (omega (arith, some, fits)) (omega (arith, k.inside))) in
+        let number_above = λ (j : ℕ) (h : j < 64) (m : 7 + b ≤ origin + 8 + j) (l : column_at (origin + 8) j b ≤ c.shape.columns). k.filled.lower_above_is.numbers j b h fits (omega (arith, used)) some (omega (arith, fits, k.some, bands_are)) m l
+        ∙ ap (λ (n : ℕ). pos n) (done_above z (column_within c.shape.columns (column_at (origin + 8) j b)) (omega (arith, some, fits)) (omega (arith, some, fits, k.some)) (omega (arith, k.inside))) in
         let before : column_at (origin + 8) (i - 1) b ≡ x - 1 = omega (arith, low) in
         let after : column_at (origin + 8) (i + 1) b ≡ x + 1 = omega (arith, left) in
         let here = number i (omega (arith, high)) (omega (arith, left)) (omega (arith, right)) in
@@ -187,10 +179,10 @@ module _ {q : ℕ} {f : WaveForm} {c : Image} {bands : List PredictorState} {fir
         let at_west : column_within c.shape.columns (x - 1) ≡ x - 1 = omega (arith, right) in
         k.filled.lower_is i b low high fits
         ∙ rw (here, west, north_west, north, north_east, before, after, at, at_west, columns, k.form.column, ← k.made)
-        (sym (central_told base.predictor d inv.cube.cube z y x (place_of z x (omega (arith, some, fits)) right) k.row.0 left))
+        (sym (central_told base.predictor d inv.cube.cube z y x (place_of z x (omega (arith, some, fits, k.some)) right) k.row.0 left))
 
-  pub count_is : (b : ℕ) → b < 8 → component_count base.predictor (first + b) ≡ length (band_at bands (first + b)).weights
-  count_is b fits = sym ((k.filled.has b fits).long ∙ ap₂ component_count (same_made b fits) (band b fits).band)
+  pub count_is : (b : ℕ) → b < 8 → first + b < length bands → component_count base.predictor (first + b) ≡ length (band_at bands (first + b)).weights
+  count_is b fits exists = sym ((has_weights b fits exists).long ∙ ap₂ component_count (same_made (first + b) exists) (band b exists).band)
 
   kind_is : d.kind ≡ base.range.kind
   kind_is = inv.cube.kind ∙ sym head.follows.made.kind ∙ sym k.of-kind
@@ -223,7 +215,7 @@ module _ {q : ℕ} {f : WaveForm} {c : Image} {bands : List PredictorState} {fir
     row = (k.row.0, rw inv.alike.shape at k.row.1);
     most = k.steps.1;
     few = k.few;
-    bands = λ b fits. (refl, rw inv.cube.shape (within b fits));
+    bands = λ b fits. refl;
     predictor = λ b fits. refl;
     columns = λ b fits. ap (λ (z : Sizes). z.columns) (inv.cube.shape ∙ sym head.follows.made.shape) ∙ sym k.of-columns;
     kind = λ b fits. kind_is;
@@ -238,14 +230,14 @@ module _ {q : ℕ} {f : WaveForm} {c : Image} {bands : List PredictorState} {fir
       bits_are = k.form.bits ∙ ap (λ (n : SampleKind). n.bits) (inv.alike.kind ∙ kind_is) ∙ sym base.range.bits_is;
       exponent_is = exponent_is (column_at origin j b) (omega (arith, bound, columns));
     };
-    north = λ i b high fits left bound. rw columns at (above_number i b (omega (arith, high, k.steps)) fits left (omega (arith, bound, columns)));
+    north = λ i b high fits exists left bound. rw columns at (above_number i b (omega (arith, high, k.steps)) fits (omega (arith, exists, bands_here)) left (omega (arith, bound, columns)));
     below = below_is;
   }
 
-  coded_here : (b x : ℕ) → b < 8 → first_column origin b ≤ x → x < c.shape.columns → number_at c (first + b) y x ≡ mapped_residual p d (first + b) (y * d.shape.columns + x)
-  coded_here b x fits low bound =
-      let there : IsPlace c.shape (first + b) y x = record { band = rw shape (within b fits); row = k.row.1; column = bound } in
-      let holds = (band b fits).coded y x there (let at = k.stand b fits in omega (arith, at, low)) in
+  coded_here : (b x : ℕ) → b < 8 → first + b < length bands → first_column origin b ≤ x → x < c.shape.columns → number_at c (first + b) y x ≡ mapped_residual p d (first + b) (y * d.shape.columns + x)
+  coded_here b x fits exists low bound =
+      let there : IsPlace c.shape (first + b) y x = record { band = rw shape (within (first + b) exists); row = k.row.1; column = bound } in
+      let holds = (band b exists).coded y x there (let at = k.stand b fits exists in omega (arith, at, low)) in
       ap (λ (v : ℤ). unsigned_abs (v -ℤ smin c.kind)) holds ∙ offset_back (smin c.kind) _
       ∙ ap (λ (n : ℕ). mapped_residual p d (first + b) (y * n + x)) columns
     where
@@ -253,36 +245,44 @@ module _ {q : ℕ} {f : WaveForm} {c : Image} {bands : List PredictorState} {fir
       offset_back least n = omega (arith, ints)
 
   -- each band's weights, in the rows that hold them
-  weights_there : (b : ℕ) → b < 8 → (rows : List (List ℤ)) → HasWeights q b (band_at bands (first + b)) rows
+  weights_there : (b : ℕ) → b < 8 → first + b < length bands → (rows : List (List ℤ)) → HasWeights q b (band_at bands (first + b)) rows
       → AreWeightsAt p base.predictor d (first + b) (y * d.shape.columns + first_column origin b) (take (component_count base.predictor (first + b)) (weights_of q b rows))
-  weights_there b fits rows has =
-      let at = band b fits in
-      let enough : length (band_at bands (first + b)).weights ≤ 2 * q = rw (← count_is b fits) (enough_at (first + b)) in record {
+  weights_there b fits exists rows has =
+      let at = band b exists in
+      let enough : length (band_at bands (first + b)).weights ≤ 2 * q = rw (← count_is b fits exists) (enough_at (first + b)) in record {
         predictor = predictor_is;
-        weights = ap (λ (n : ℕ). take n (weights_of q b rows)) (count_is b fits) ∙ has.used enough ∙ at.follows.weights
-            ∙ ap₂ (weight_vector p d) at.band (k.stand b fits ∙ ap (λ (n : ℕ). y * n + first_column origin b) columns);
+        weights = ap (λ (n : ℕ). take n (weights_of q b rows)) (count_is b fits exists) ∙ has.used enough ∙ at.follows.weights
+            ∙ ap₂ (weight_vector p d) at.band (k.stand b fits exists ∙ ap (λ (n : ℕ). y * n + first_column origin b) columns);
       }
 
   -- before step 8, in the lanes that have begun
   pub start_begun : AreInStep q p s d first y origin last (min 8 (origin + 1)) 8 numbers own weights
   start_begun = record {
-    offsets = λ i b low high mine left right. own_number i b (omega (arith, high)) (omega (arith, mine)) left (omega (arith, right, columns))
-        ∙ ap (λ (n : ℕ). pos n) (done_here b (column_at origin i b) (omega (arith, mine)) (omega (arith, high)));
-    residuals = λ i b low high fits left right. own_number i b (omega (arith, high, k.steps)) fits (omega (arith, left)) (omega (arith, right, columns))
-        ∙ ap (λ (n : ℕ). pos n) (coded_here b (column_at origin i b) fits (omega (arith, low, left)) (omega (arith, right, columns)));
-    centrals = λ i b low high mine left right. own_central i b low high (omega (arith, mine)) left (omega (arith, right, columns));
-    weights_at = λ b mine bound.
+    offsets = λ i b low high mine exists left right.
+        let there : first + b < length bands = omega (arith, exists, bands_here) in
+        own_number i b (omega (arith, high)) (omega (arith, mine)) there left (omega (arith, right, columns))
+        ∙ ap (λ (n : ℕ). pos n) (done_here b (column_at origin i b) (omega (arith, mine)) there (omega (arith, high)));
+    residuals = λ i b low high fits exists left right.
+        let there : first + b < length bands = omega (arith, exists, bands_here) in
+        own_number i b (omega (arith, high, k.steps)) fits there (omega (arith, left)) (omega (arith, right, columns))
+        ∙ ap (λ (n : ℕ). pos n) (coded_here b (column_at origin i b) fits there (omega (arith, low, left)) (omega (arith, right, columns)));
+    centrals = λ i b low high mine exists left right.
+        own_central i b low high (omega (arith, mine)) (omega (arith, exists, bands_here)) left (omega (arith, right, columns));
+    weights_at = λ b mine exists bound.
+        let there : first + b < length bands = omega (arith, exists, bands_here) in
         let fits : b < 8 = omega (arith, mine) in let column : column_at origin 8 b ≡ first_column origin b = omega (arith, mine) in
-        rw column (weights_there b fits weights (k.filled.has b fits));
+        rw column (weights_there b fits there weights (has_weights b fits there));
   }
 
   -- and in those that are to begin
   pub to_begin : origin ≡ 0 → AreToBegin q p s d first y bands numbers
   to_begin zero = record {
-    offset = λ b fits.
+    many = sym bands_here;
+    offset = λ b fits exists.
+        let there : first + b < length bands = omega (arith, exists, bands_here) in
         let column : column_at origin (7 + b) b ≡ 0 = omega (arith, zero) in
-        own_number (7 + b) b (omega (arith, fits)) fits (omega arith) (omega (arith, column, k.inside))
-        ∙ ap (λ (n : ℕ). pos n) (done_here b (column_at origin (7 + b) b) fits (omega (arith, column)) ∙ ap (number_at d (first + b) y) column);
-    weights_at = λ b fits rows has.
-        let column : first_column origin b ≡ 1 = omega (arith, zero) in rw column at (weights_there b fits rows has);
+        own_number (7 + b) b (omega (arith, fits)) fits there (omega arith) (omega (arith, column, k.inside))
+        ∙ ap (λ (n : ℕ). pos n) (done_here b (column_at origin (7 + b) b) fits there (omega (arith, column)) ∙ ap (number_at d (first + b) y) column);
+    weights_at = λ b fits exists rows has.
+        let column : first_column origin b ≡ 1 = omega (arith, zero) in rw column at (weights_there b fits (omega (arith, exists, bands_here)) rows has);
   }

@@ -1,6 +1,6 @@
--- Eight bands in a wavefront over a row of an image d: in step k, lane b is band `first + b`, at column `origin + k - 7 - b`. A lane that isn't at a column yet, or
--- is beyond its last one, holds numbers without meaning.
-use Rattle.std.specs.Prelude.{ℕ, ◌≡◌, ◌+◌, ◌-◌, ◌*◌, ◌<◌, ◌≤◌, nat_le, min, ℤ, pos, ◌+ℤ◌, List, take, if◌then◌else◌}
+-- At most eight bands in a wavefront over a row of an image d: in step k, lane b is band `first + b`, if there is one, at column `origin + k - 7 - b`. A lane that isn't at a
+-- column yet, or is beyond its last one, holds numbers without meaning.
+use Rattle.std.specs.Prelude.{ℕ, ◌≡◌, ◌+◌, ◌-◌, ◌*◌, ◌<◌, ◌≤◌, nat_le, min, ℤ, pos, ◌+ℤ◌, List, length, take, if◌then◌else◌}
 use Rattle.header_bits.specs.declared.params.Params.{Params}
 use Rattle.cube_core.specs.Kind.{smin, smax}
 use Rattle.cube_core.specs.Image.{Image, IsCube}
@@ -41,7 +41,7 @@ pub record AreLanes (q : ℕ) (f : WaveForm) (p : Params) (s : ℕ → Settings)
   pub row : (0 < y) × (y < d.shape.rows)
   pub most : last ≤ 63
   pub few : q ≤ 9
-  pub bands : (b : ℕ) → b < 8 → ((s b).band ≡ first + b) × (first + b < d.shape.bands)
+  pub bands : (b : ℕ) → b < 8 → (s b).band ≡ first + b
   pub predictor : (b : ℕ) → b < 8 → (s b).predictor ≡ (s 0).predictor
   pub columns : (b : ℕ) → b < 8 → d.shape.columns ≡ (s b).columns
   pub kind : (b : ℕ) → b < 8 → d.kind ≡ (s b).range.kind
@@ -52,7 +52,7 @@ pub record AreLanes (q : ℕ) (f : WaveForm) (p : Params) (s : ℕ → Settings)
   pub previous : f.previous ≡ (s 0).predictor.previous
   pub greatest : smin d.kind +ℤ f.greatest ≡ smax d.kind
   pub steps : (b k : ℕ) → b < 8 → column_at origin k b < d.shape.columns → AreStepsThere (s b) d f.omega f.bits f.exponent y (column_at origin k b)
-  pub north : (i b : ℕ) → i ≤ last → b < 8 → 7 + b ≤ origin + i → column_at origin i b ≤ d.shape.columns
+  pub north : (i b : ℕ) → i ≤ last → b < 8 → first + b < d.shape.bands → 7 + b ≤ origin + i → column_at origin i b ≤ d.shape.columns
       → place above i b ≡ pos (number_at d (first + b) (y - 1) (column_within d.shape.columns (column_at origin i b)))
   pub below : (i b : ℕ) → 1 ≤ i → i < last → b < 8 → 8 ≤ f.previous + b → 0 < column_at origin (i + 8) b → column_at origin (i + 8) b < d.shape.columns
       → place lower i b ≡ (if nat_le 8 (first + b) then central_difference (s 0).predictor d (first + b - 8) y (column_at origin (i + 8) b) else pos 0)
@@ -60,17 +60,18 @@ pub record AreLanes (q : ℕ) (f : WaveForm) (p : Params) (s : ℕ → Settings)
 -- what has been found before step k in the first n lanes, which have begun: the offsets of the bands up to there, from which their central differences come, and
 -- the weights, each as far as the end of the row; the residuals from there on are as they were, in all lanes
 pub record AreInStep (q : ℕ) (p : Params) (s : ℕ → Settings) (d : Image) (first y origin last n k : ℕ) (numbers own weights : List (List ℤ)) : Type 0 where
-  pub offsets : (i b : ℕ) → 7 ≤ i → i < k → b < n → 7 + b ≤ origin + i → column_at origin i b < d.shape.columns
+  pub offsets : (i b : ℕ) → 7 ≤ i → i < k → b < n → first + b < d.shape.bands → 7 + b ≤ origin + i → column_at origin i b < d.shape.columns
       → place numbers i b ≡ pos (number_at d (first + b) y (column_at origin i b))
-  pub residuals : (i b : ℕ) → k ≤ i → i < last → b < 8 → 0 < column_at origin i b → column_at origin i b < d.shape.columns
+  pub residuals : (i b : ℕ) → k ≤ i → i < last → b < 8 → first + b < d.shape.bands → 0 < column_at origin i b → column_at origin i b < d.shape.columns
       → place numbers i b ≡ pos (mapped_residual p d (first + b) (y * d.shape.columns + column_at origin i b))
-  pub centrals : (i b : ℕ) → b < i → i < k → b < n → 0 < column_at origin i b → column_at origin i b < d.shape.columns
+  pub centrals : (i b : ℕ) → b < i → i < k → b < n → first + b < d.shape.bands → 0 < column_at origin i b → column_at origin i b < d.shape.columns
       → place own i b ≡ central_difference (s 0).predictor d (first + b) y (column_at origin i b)
-  pub weights_at : (b : ℕ) → b < n → column_at origin k b ≤ d.shape.columns
+  pub weights_at : (b : ℕ) → b < n → first + b < d.shape.bands → column_at origin k b ≤ d.shape.columns
       → AreWeightsAt p (s b).predictor d (first + b) (y * d.shape.columns + column_at origin k b) (take (s b).count (weights_of q b weights))
 
 -- what is known before step 8 of lanes that begin at column 1, one after another: the offset at column 0, and the weights there
 pub record AreToBegin (q : ℕ) (p : Params) (s : ℕ → Settings) (d : Image) (first y : ℕ) (bands : List PredictorState) (numbers : List (List ℤ)) : Type 0 where
-  pub offset : (b : ℕ) → b < 8 → place numbers (7 + b) b ≡ pos (number_at d (first + b) y 0)
-  pub weights_at : (b : ℕ) → b < 8 → (rows : List (List ℤ)) → HasWeights q b (band_at bands (first + b)) rows
+  pub many : length bands ≡ d.shape.bands
+  pub offset : (b : ℕ) → b < 8 → first + b < d.shape.bands → place numbers (7 + b) b ≡ pos (number_at d (first + b) y 0)
+  pub weights_at : (b : ℕ) → b < 8 → first + b < d.shape.bands → (rows : List (List ℤ)) → HasWeights q b (band_at bands (first + b)) rows
       → AreWeightsAt p (s b).predictor d (first + b) (y * d.shape.columns + 1) (take (s b).count (weights_of q b rows))

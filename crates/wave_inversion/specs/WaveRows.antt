@@ -1,5 +1,5 @@
 -- Lines of eight bands, each a column further to the left than the one before, and the rows that they are turned into.
-use Rattle.std.specs.Prelude.{ℕ, ◌≡◌, ◌⊎◌, ◌+◌, ◌-◌, ◌^◌, ◌<◌, ◌≤◌, ℤ, pos, ◌-ℤ◌, ◌*ℤ◌, List, length, slice_index}
+use Rattle.std.specs.Prelude.{ℕ, ◌≡◌, ◌⊎◌, ◌+◌, ◌-◌, ◌^◌, ◌<◌, ◌≤◌, min, ℤ, pos, ◌-ℤ◌, ◌*ℤ◌, List, length, slice_index}
 use Rattle.std.specs.Int.{w16, cast_unsigned}
 use Rattle.cube_core.specs.Image.{Image}
 use Rattle.lanes.specs.Lanes.{place}
@@ -25,14 +25,14 @@ pub record IsSkewed (row : List ℕ) (origin back : ℕ) (line : ℕ → ℤ) : 
 -- line b of eight has at place i the offset at column origin + below + i - 7 - b of row y of the band so many below band first + b, and after the last column that of
 -- the last one once more, or 0 where there is no such band; lines before number `least` have numbers without meaning
 pub record AreLinesOf (c : Image) (first below least y origin : ℕ) (lines : List (List ℤ)) : Type 0 where
-  pub numbers : (b i : ℕ) → b < 8 → i < 64 → least ≤ b → below ≤ first + b → 7 + b ≤ origin + below + i → column_at (origin + below) i b ≤ c.shape.columns
+  pub numbers : (b i : ℕ) → b < 8 → i < 64 → least ≤ b → below ≤ first + b → first + b < c.shape.bands + below → 7 + b ≤ origin + below + i → column_at (origin + below) i b ≤ c.shape.columns
       → place lines b i ≡ pos (number_at c (first + b - below) y (column_within c.shape.columns (column_at (origin + below) i b)))
   pub none : (b i : ℕ) → b < 8 → i < 64 → least ≤ b → first + b < below → place lines b i ≡ pos 0
 
 -- row i of 64 has in lane b the offset at column origin + below + i - 7 - b of row y of the band so many below band first + b, and after the last column that of
 -- the last one once more, or 0 where there is no such band; in lanes before number `least` it has numbers without meaning
 pub record AreRowsOf (c : Image) (first below least y origin : ℕ) (rows : List (List ℤ)) : Type 0 where
-  pub numbers : (i b : ℕ) → i < 64 → b < 8 → least ≤ b → below ≤ first + b → 7 + b ≤ origin + below + i → column_at (origin + below) i b ≤ c.shape.columns
+  pub numbers : (i b : ℕ) → i < 64 → b < 8 → least ≤ b → below ≤ first + b → first + b < c.shape.bands + below → 7 + b ≤ origin + below + i → column_at (origin + below) i b ≤ c.shape.columns
       → place rows i b ≡ pos (number_at c (first + b - below) y (column_within c.shape.columns (column_at (origin + below) i b)))
   pub none : (i b : ℕ) → i < 64 → b < 8 → least ≤ b → first + b < below → place rows i b ≡ pos 0
 
@@ -47,7 +47,7 @@ pub record AreFilled (q : ℕ) (f : WaveForm) (c : Image) (bands : List Predicto
   pub lower_above_is : AreRowsOf c first 8 (8 - f.previous) (y - 1) origin lower_above
   pub lower_is : (i b : ℕ) → 1 ≤ i → i < 63 → b < 8 → place lower i b ≡ pos 4 *ℤ place lower_numbers i b -ℤ sum_at f.column lower_numbers lower_above i b
   pub own_is : (i b : ℕ) → 1 ≤ i → i < 8 → b < 8 → place own i b ≡ pos 4 *ℤ place numbers i b -ℤ sum_at f.column numbers above i b
-  pub has : (b : ℕ) → b < 8 → HasWeights q b (band_at bands (first + b)) weights
+  pub has : (b : ℕ) → b < 8 → HasWeights q b (band_at bands (min (first + b) (length bands - 1))) weights
   pub above_in : AreOffsetRows f.greatest above
   pub numbers_in : AreOffsetRows f.greatest numbers
   pub lower_in : AreRowsBelow (2 ^ (f.bits + 2)) lower

@@ -1,4 +1,4 @@
--- A piece of a row of eight bands that is inverted as a wavefront: the form for it, and what is found.
+-- A piece of a row of at most eight bands that is inverted as a wavefront: the form for it, and what is found.
 use Rattle.std.specs.Prelude.{ℕ, ◌≡◌, ◌+◌, ◌-◌, ◌*◌, ◌^◌, ◌<◌, ◌≤◌, ℤ, pos, ◌+ℤ◌, min, nat_lt, List, [], length, take, slice_index, slice_index_or, if◌then◌else◌}
 use Rattle.header_bits.specs.declared.params.Params.{Params}
 use Rattle.cube_core.specs.Kind.{smin, smax}
@@ -30,13 +30,17 @@ pub record IsFormOf (f : WaveForm) (m : Predictor) (c : Image) (y : ℕ) : Type 
   pub bits : f.bits ≡ c.kind.bits
   pub exponent : (x : ℕ) → x < c.shape.columns → f.exponent ≡ step_exponent m c.shape.columns c.kind.bits (y * c.shape.columns + x)
 
--- eight bands stand as a wavefront does before step 8: each a column to the left of the one before, or at column 1
+-- at most eight bands stand as a wavefront does before step 8: each a column to the left of the one before, or at column 1
 abbrev pub StandAsWave : List PredictorState → ℕ → ℕ → ℕ → ℕ → Type 0
-StandAsWave bands first columns y origin = (b : ℕ) → b < 8 → (band_at bands (first + b)).t ≡ y * columns + first_column origin b
+StandAsWave bands first columns y origin = (b : ℕ) → b < 8 → first + b < length bands → (band_at bands (first + b)).t ≡ y * columns + first_column origin b
 
--- each of eight bands stands in a row, or at its end
+-- how many lanes have a band
+abbrev pub lane_count : List PredictorState → ℕ → ℕ
+lane_count bands first = min 8 (length bands - first)
+
+-- each of at most eight bands stands in a row, or at its end
 abbrev pub StandInRow : List PredictorState → ℕ → ℕ → ℕ → Type 0
-StandInRow bands first columns y = (b : ℕ) → b < 8 → (y * columns ≤ (band_at bands (first + b)).t) × ((band_at bands (first + b)).t ≤ y * columns + columns)
+StandInRow bands first columns y = (b : ℕ) → b < 8 → first + b < length bands → (y * columns ≤ (band_at bands (first + b)).t) × ((band_at bands (first + b)).t ≤ y * columns + columns)
 
 -- how many lanes come to the end of the row before step `last`: the first ones, one after another
 abbrev pub ended : ℕ → ℕ → ℕ → ℕ
@@ -62,10 +66,10 @@ pub record AreCollected (q lanes : ℕ) (numbers : List (List ℤ)) (ends : ℕ 
 -- the offsets of each band are found from its first step to step `last`, up to the last column, and its weights after them, among the first 2·q
 pub record AreFound (q : ℕ) (bands : List PredictorState) (c : Image) (first y origin last : ℕ) (found : Found) : Type 0 where
   pub within : (b i : ℕ) → b < 8 → i < 64 → offset_in found.offsets b i < 2 ^ c.kind.bits
-  pub enough : (b : ℕ) → b < 8 → length (band_at bands (first + b)).weights ≤ 2 * q
-  pub weights_in : (b : ℕ) → b < 8 → AllWithin (2 ^ ((band_at bands (first + b)).predictor.omega + 2)) (take (2 * q) (slice_index_or found.weights b []))
-  pub offsets_at : (p : Params) (d : Image) → IsInverting p c d bands → (b i : ℕ) → b < 8 → first_step origin b ≤ i → i < last
+  pub enough : (b : ℕ) → b < 8 → first + b < length bands → length (band_at bands (first + b)).weights ≤ 2 * q
+  pub weights_in : (b : ℕ) → b < 8 → first + b < length bands → AllWithin (2 ^ ((band_at bands (first + b)).predictor.omega + 2)) (take (2 * q) (slice_index_or found.weights b []))
+  pub offsets_at : (p : Params) (d : Image) → IsInverting p c d bands → (b i : ℕ) → b < 8 → first + b < length bands → first_step origin b ≤ i → i < last
       → column_at origin i b < c.shape.columns → offset_in found.offsets b i ≡ number_at d (first + b) y (column_at origin i b)
-  pub weights_at : (p : Params) (d : Image) → IsInverting p c d bands → (b : ℕ) → b < 8
+  pub weights_at : (p : Params) (d : Image) → IsInverting p c d bands → (b : ℕ) → b < 8 → first + b < length bands
       → take (length (band_at bands (first + b)).weights) (slice_index_or found.weights b [])
       ≡ weight_vector p d (first + b) (y * c.shape.columns + end_column c.shape.columns origin last b)

@@ -1,4 +1,4 @@
-//! A piece of a row of eight bands, inverted in the lanes of its form.
+//! A piece of a row of at most eight bands, inverted in the lanes of its form.
 
 ghost use Rattle.std.specs.Prelude.{◌≡◌, ◌+◌, ◌-◌, ◌*◌, ◌<◌, ◌≤◌, ℕ, true, false, length};
 ghost use Rattle.cube_core.specs.Image.{Image};
@@ -31,7 +31,7 @@ pub(crate) fn invert_by(
     rooms: &mut WaveRooms,
 ) -> bool
     requires inverting { (p : Parameters) × (d : Image) × IsInverting p cube.old d bands.old }
-    requires eight { first + 8 ≤ length bands.old }
+    requires some { first < length bands.old }
     requires row { (0 < y) × (y < cube.old.shape.rows) }
     requires last { (8 ≤ last) × (last ≤ 63) }
     requires begun { (origin ≡ 0 → 15 ≤ last) × (0 < origin → 7 ≤ origin) }
@@ -42,7 +42,7 @@ pub(crate) fn invert_by(
     ensures inverted { (p : Parameters) (d : Image) → IsInverting p cube.old d bands.old → IsInverting p cube.new d bands.new }
     ensures alike { AreAlike cube.old cube.new }
     ensures many { length bands.new ≡ length bands.old }
-    ensures moved { result ≡ true → (b : ℕ) → b < 8 → (band_at bands.new (first + b)).t ≡ y * cube.old.shape.columns + end_column cube.old.shape.columns origin last b }
+    ensures moved { result ≡ true → (b : ℕ) → b < 8 → first + b < length bands.old → (band_at bands.new (first + b)).t ≡ y * cube.old.shape.columns + end_column cube.old.shape.columns origin last b }
     ensures kept { result ≡ false → bands.new ≡ bands.old }
     ensures others { AreKeptBeside bands.old bands.new first (first + 8) }
 {
@@ -69,7 +69,7 @@ fn invert_narrow(
     room: &mut WaveRoom,
 ) -> bool
     requires inverting { (p : Parameters) × (d : Image) × IsInverting p cube.old d bands.old }
-    requires eight { first + 8 ≤ length bands.old }
+    requires some { first < length bands.old }
     requires row { (0 < y) × (y < cube.old.shape.rows) }
     requires last { (8 ≤ last) × (last ≤ 63) }
     requires begun { (origin ≡ 0 → 15 ≤ last) × (0 < origin → 7 ≤ origin) }
@@ -80,7 +80,7 @@ fn invert_narrow(
     ensures inverted { (p : Parameters) (d : Image) → IsInverting p cube.old d bands.old → IsInverting p cube.new d bands.new }
     ensures alike { AreAlike cube.old cube.new }
     ensures many { length bands.new ≡ length bands.old }
-    ensures moved { result ≡ true → (b : ℕ) → b < 8 → (band_at bands.new (first + b)).t ≡ y * cube.old.shape.columns + end_column cube.old.shape.columns origin last b }
+    ensures moved { result ≡ true → (b : ℕ) → b < 8 → first + b < length bands.old → (band_at bands.new (first + b)).t ≡ y * cube.old.shape.columns + end_column cube.old.shape.columns origin last b }
     ensures kept { result ≡ false → bands.new ≡ bands.old }
     ensures others { AreKeptBeside bands.old bands.new first (first + 8) }
 {
@@ -106,7 +106,7 @@ fn invert_long(
     room: &mut LongWaveRoom,
 )
     requires inverting { (p : Parameters) × (d : Image) × IsInverting p cube.old d bands.old }
-    requires eight { first + 8 ≤ length bands.old }
+    requires some { first < length bands.old }
     requires row { (0 < y) × (y < cube.old.shape.rows) }
     requires last { (8 ≤ last) × (last ≤ 63) }
     requires begun { (origin ≡ 0 → 15 ≤ last) × (0 < origin → 7 ≤ origin) }
@@ -117,7 +117,7 @@ fn invert_long(
     ensures inverted { (p : Parameters) (d : Image) → IsInverting p cube.old d bands.old → IsInverting p cube.new d bands.new }
     ensures alike { AreAlike cube.old cube.new }
     ensures many { length bands.new ≡ length bands.old }
-    ensures moved { (b : ℕ) → b < 8 → (band_at bands.new (first + b)).t ≡ y * cube.old.shape.columns + end_column cube.old.shape.columns origin last b }
+    ensures moved { (b : ℕ) → b < 8 → first + b < length bands.old → (band_at bands.new (first + b)).t ≡ y * cube.old.shape.columns + end_column cube.old.shape.columns origin last b }
     ensures others { AreKeptBeside bands.old bands.new first (first + 8) }
 {
     match form.pairs {

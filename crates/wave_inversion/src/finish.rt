@@ -10,14 +10,14 @@ ghost use Rattle.wave_inversion.specs.Inversion.{IsInverting, AreKeptBeside, ban
 ghost use Rattle.predict_core.specs.Offsets.{number_at};
 ghost use Rattle.predict_core.specs.Precedence.{AreAlike};
 ghost use Rattle.wave_inversion.specs.WaveLanes.{column_at, first_column, first_step};
-ghost use Rattle.wave_inversion.specs.WaveTiles.{AreFound, StandAsWave, end_column, ended, offset_in};
+ghost use Rattle.wave_inversion.specs.WaveTiles.{AreFound, StandAsWave, end_column, ended, lane_count, offset_in};
 
 use crate::found::Found;
 use cube_core::cube::Cube;
 use predict_core::band::Band;
 use sample_prediction::predictor::MOST_COMPONENTS;
 
-/// Writes what was found of each of eight bands into the cube, and advances the bands.
+/// Writes what was found of each band, eight at most, into the cube, and advances the bands.
 pub(crate) fn finish_lanes<const Q: usize>(
     bands: &mut [Band],
     first: usize,
@@ -29,22 +29,23 @@ pub(crate) fn finish_lanes<const Q: usize>(
 )
     requires pairs { Q ≤ 9 }
     requires inverting { (p : Parameters) × (d : Image) × IsInverting p cube.old d bands.old }
-    requires eight { first + 8 ≤ length bands.old }
+    requires some { first < length bands.old }
     requires row { y < cube.old.shape.rows }
     requires last { (8 ≤ last) × (last ≤ 63) }
     requires begun { (origin ≡ 0 → 15 ≤ last) × (0 < origin → 7 ≤ origin) }
     requires inside { (16 ≤ cube.old.shape.columns) × (origin + 2 ≤ cube.old.shape.columns) × (origin + last ≤ cube.old.shape.columns + 14) }
     requires stand { StandAsWave bands.old first cube.old.shape.columns y origin }
-    requires enough { (b : ℕ) → b < 8 → length (band_at bands.old (first + b)).weights ≤ 2 * Q }
+    requires enough { (b : ℕ) → b < 8 → first + b < length bands.old → length (band_at bands.old (first + b)).weights ≤ 2 * Q }
     requires found { AreFound Q bands.old cube.old first y origin last found.now }
     ensures inverted { (p : Parameters) (d : Image) → IsInverting p cube.old d bands.old → IsInverting p cube.new d bands.new }
     ensures alike { AreAlike cube.old cube.new }
     ensures many { length bands.new ≡ length bands.old }
-    ensures moved { (b : ℕ) → b < 8 → (band_at bands.new (first + b)).t ≡ y * cube.old.shape.columns + end_column cube.old.shape.columns origin last b }
+    ensures moved { (b : ℕ) → b < 8 → first + b < length bands.old → (band_at bands.new (first + b)).t ≡ y * cube.old.shape.columns + end_column cube.old.shape.columns origin last b }
     ensures others { AreKeptBeside bands.old bands.new first (first + 8) }
 {
     cube.prove_is_cube();
-    for b in 0..8usize {
+    let many = lane_count(bands, first);
+    for b in 0..many {
         finish_lane::<Q>(bands, first, b, cube, y, origin, last, found);
     }
 }
@@ -101,6 +102,14 @@ fn end_of(cube: &Cube, origin: usize, last: usize, b: usize) -> usize
 {
     let columns = cube.shape().columns() as usize;
     columns.min(origin + last - (7 + b))
+}
+
+/// Returns how many of eight lanes have a band: those of the bands from the `first` on.
+pub(crate) fn lane_count(bands: &[Band], first: usize) -> usize
+    requires { first < length bands.now }
+    ensures { result ≡ lane_count bands.now first }
+{
+    8.min(bands.len() - first)
 }
 
 /// Returns how many lanes come to the end of the row before step `last`.

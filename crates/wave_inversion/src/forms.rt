@@ -23,18 +23,24 @@ use sample_prediction::sample_limits::SampleLimits;
 /// The least number of columns that are worth the work of going as a wavefront.
 const LEAST_COLUMNS: u32 = 32;
 
+/// The least bands that are worth the work of going as a wavefront in lanes of 32 bits.
+const LEAST_LONG: usize = 7;
+
 /// The most previous bands that a wavefront takes.
 const MOST_PREVIOUS: u32 = 7;
 
-/// Returns the form in which row `y` of a band, and of the bands with the same parameters, can be inverted as a wavefront: in lanes of 16
-/// bits where these are exact, and else in lanes of 32.
-pub(crate) fn width_of(band: &Band, y: u32) -> Option<Width>
+/// Returns the form in which row `y` of a band, and of the others of `many` bands with the same parameters, can be inverted as a wavefront:
+/// in lanes of 16 bits where these are exact, and else in lanes of 32 if the bands are enough for these.
+pub(crate) fn width_of(band: &Band, y: u32, many: usize) -> Option<Width>
     requires { y < band.now.shape.rows }
     ensures form { IfSome result (λ f. (c : Image) → c.shape ≡ band.now.shape → c.kind ≡ band.now.kind → IsFormOf (form_in f) band.now.predictor c y) }
     ensures columns { IfSome result (λ f. 16 ≤ band.now.shape.columns) }
 {
     if let Some(form) = form_of(band, y) {
         return Some(Width::Narrow(form));
+    }
+    if many < LEAST_LONG {
+        return None;
     }
     if let Some(form) = long_form_of(band, y) {
         return Some(Width::Long(form));

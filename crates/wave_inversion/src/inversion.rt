@@ -1,6 +1,6 @@
 //! Inverting the prediction of a whole cube in place: it holds mapped residuals, and then samples.
 
-ghost use Rattle.std.specs.Prelude.{◌≡◌, ◌+◌, ◌-◌, ◌*◌, ◌<◌, ◌≤◌, ℕ, true, false, length};
+ghost use Rattle.std.specs.Prelude.{◌≡◌, ◌+◌, ◌-◌, ◌*◌, ◌<◌, ◌≤◌, ℕ, true, false, min, length};
 ghost use Rattle.cube_core.specs.Image.{Image, IsPlace};
 ghost use Rattle.header_bits.specs.declared.params.Params.{Params as Parameters};
 ghost use Rattle.predict_core.specs.Precedence.{AreAlike};
@@ -9,6 +9,7 @@ ghost use Rattle.wave_inversion.specs.WaveForms.{form_in};
 ghost use Rattle.wave_inversion.specs.WaveTiles.{IsFormOf, StandAsWave, StandInRow};
 
 use crate::by_width::invert_by;
+use crate::finish::lane_count;
 use crate::forms::width_of;
 use crate::rooms::WaveRooms;
 use crate::width::Width;
@@ -18,6 +19,9 @@ use predict_core::mapping::copy_offsets;
 
 /// The most bands that are inverted together.
 const MOST: usize = 8;
+
+/// The least bands that are worth the work of going as a wavefront.
+const LEAST: usize = 4;
 
 /// The most places of a run.
 const RUN: usize = 64;
@@ -51,7 +55,7 @@ fn invert_group(
     rooms: &mut WaveRooms,
 )
     requires inverting { (p : Parameters) × (d : Image) × IsInverting p cube.old d bands.old }
-    requires order { (first ≤ last) × (last ≤ length bands.old) }
+    requires order { (first ≤ last) × (last ≡ min (length bands.old) (first + 8)) }
     requires start { StandAt bands.old first last 0 }
     requires ahead { AreAhead bands.old first (cube.old.shape.rows * cube.old.shape.columns) }
     ensures inverted { (p : Parameters) (d : Image) → IsInverting p cube.old d bands.old → IsInverting p cube.new d bands.new }
@@ -65,7 +69,7 @@ fn invert_group(
     }
 }
 
-/// Inverts row `y` of the bands `first..last`: eight of them as a wavefront where lanes are exact, and else one after another.
+/// Inverts row `y` of the bands `first..last`: as a wavefront where lanes are exact, and else one after another.
 fn invert_rows(
     bands: &mut [Band],
     first: usize,
@@ -75,7 +79,7 @@ fn invert_rows(
     rooms: &mut WaveRooms,
 )
     requires inverting { (p : Parameters) × (d : Image) × IsInverting p cube.old d bands.old }
-    requires order { (first ≤ last) × (last ≤ length bands.old) }
+    requires order { (first ≤ last) × (last ≡ min (length bands.old) (first + 8)) }
     requires row { y < cube.old.shape.rows }
     requires start { StandAt bands.old first last (y * cube.old.shape.columns) }
     requires ahead { AreAhead bands.old first ((y + 1) * cube.old.shape.columns) }
@@ -86,8 +90,8 @@ fn invert_rows(
     ensures others { AreKeptBeside bands.old bands.new first last }
 {
     cube.prove_is_cube();
-    if last - first == MOST && y > 0 {
-        if let Some(form) = width_of(&bands[first], y) {
+    if last - first >= LEAST && y > 0 {
+        if let Some(form) = width_of(&bands[first], y, last - first) {
             invert_wave(bands, first, cube, y, form, rooms);
             return;
         }
@@ -97,7 +101,7 @@ fn invert_rows(
     }
 }
 
-/// Inverts row `y` of eight bands as a wavefront, but for its first column.
+/// Inverts row `y` of at most eight bands as a wavefront, but for its first column.
 fn invert_wave(
     bands: &mut [Band],
     first: usize,
@@ -107,16 +111,16 @@ fn invert_wave(
     rooms: &mut WaveRooms,
 )
     requires inverting { (p : Parameters) × (d : Image) × IsInverting p cube.old d bands.old }
-    requires eight { first + 8 ≤ length bands.old }
+    requires some { first < length bands.old }
     requires row { (0 < y) × (y < cube.old.shape.rows) }
     requires columns { 16 ≤ cube.old.shape.columns }
-    requires start { StandAt bands.old first (first + 8) (y * cube.old.shape.columns) }
+    requires start { StandAt bands.old first (min (length bands.old) (first + 8)) (y * cube.old.shape.columns) }
     requires ahead { AreAhead bands.old first ((y + 1) * cube.old.shape.columns) }
     requires form { IsFormOf (form_in form) (band_at bands.old first).predictor cube.old y }
     ensures inverted { (p : Parameters) (d : Image) → IsInverting p cube.old d bands.old → IsInverting p cube.new d bands.new }
     ensures alike { AreAlike cube.old cube.new }
     ensures many { length bands.new ≡ length bands.old }
-    ensures moved { StandAt bands.new first (first + 8) ((y + 1) * cube.old.shape.columns) }
+    ensures moved { StandAt bands.new first (min (length bands.old) (first + 8)) ((y + 1) * cube.old.shape.columns) }
     ensures others { AreKeptBeside bands.old bands.new first (first + 8) }
 {
     start_wave(bands, first, cube, y);
@@ -124,13 +128,13 @@ fn invert_wave(
     end_wave(bands, first, cube, y);
 }
 
-/// Inverts the first place of row `y` of eight bands.
+/// Inverts the first place of row `y` of at most eight bands.
 fn start_wave(bands: &mut [Band], first: usize, cube: &mut Cube, y: u32)
     requires inverting { (p : Parameters) × (d : Image) × IsInverting p cube.old d bands.old }
-    requires eight { first + 8 ≤ length bands.old }
+    requires some { first < length bands.old }
     requires row { y < cube.old.shape.rows }
     requires columns { 16 ≤ cube.old.shape.columns }
-    requires start { StandAt bands.old first (first + 8) (y * cube.old.shape.columns) }
+    requires start { StandAt bands.old first (min (length bands.old) (first + 8)) (y * cube.old.shape.columns) }
     requires ahead { AreAhead bands.old first ((y + 1) * cube.old.shape.columns) }
     ensures inverted { (p : Parameters) (d : Image) → IsInverting p cube.old d bands.old → IsInverting p cube.new d bands.new }
     ensures alike { AreAlike cube.old cube.new }
@@ -138,26 +142,28 @@ fn start_wave(bands: &mut [Band], first: usize, cube: &mut Cube, y: u32)
     ensures stand { StandAsWave bands.new first cube.old.shape.columns y 0 }
     ensures others { AreKeptBeside bands.old bands.new first (first + 8) }
 {
-    for b in 0..8usize {
+    let many = lane_count(bands, first);
+    for b in 0..many {
         invert_run(bands, first + b, cube, y, 0, 1);
     }
 }
 
-/// Inverts the rest of row `y` of eight bands, from where each has come to.
+/// Inverts the rest of row `y` of at most eight bands, from where each has come to.
 fn end_wave(bands: &mut [Band], first: usize, cube: &mut Cube, y: u32)
     requires inverting { (p : Parameters) × (d : Image) × IsInverting p cube.old d bands.old }
-    requires eight { first + 8 ≤ length bands.old }
+    requires some { first < length bands.old }
     requires row { y < cube.old.shape.rows }
     requires stand { StandInRow bands.old first cube.old.shape.columns y }
     requires ahead { AreAhead bands.old first ((y + 1) * cube.old.shape.columns) }
     ensures inverted { (p : Parameters) (d : Image) → IsInverting p cube.old d bands.old → IsInverting p cube.new d bands.new }
     ensures alike { AreAlike cube.old cube.new }
     ensures many { length bands.new ≡ length bands.old }
-    ensures moved { StandAt bands.new first (first + 8) ((y + 1) * cube.old.shape.columns) }
+    ensures moved { StandAt bands.new first (min (length bands.old) (first + 8)) ((y + 1) * cube.old.shape.columns) }
     ensures others { AreKeptBeside bands.old bands.new first (first + 8) }
 {
     cube.prove_is_cube();
-    for b in 0..8usize {
+    let many = lane_count(bands, first);
+    for b in 0..many {
         let z = first + b;
         let x = column_in(&bands[z], cube, y);
         invert_rest(bands, z, cube, y, x);
@@ -172,7 +178,7 @@ fn column_in(band: &Band, cube: &Cube, y: u32) -> u32
     (band.next() - y as u64 * cube.shape().columns() as u64) as u32
 }
 
-/// Inverts row `y` of eight bands from column 1 on, piece after piece, until they have come to its end. It ends before where 16 bits
+/// Inverts row `y` of at most eight bands from column 1 on, piece after piece, until they have come to its end. It ends before where 16 bits
 /// don't hold their weights.
 fn invert_tiles(
     bands: &mut [Band],
@@ -183,7 +189,7 @@ fn invert_tiles(
     rooms: &mut WaveRooms,
 )
     requires inverting { (p : Parameters) × (d : Image) × IsInverting p cube.old d bands.old }
-    requires eight { first + 8 ≤ length bands.old }
+    requires some { first < length bands.old }
     requires row { (0 < y) × (y < cube.old.shape.rows) }
     requires columns { 16 ≤ cube.old.shape.columns }
     requires stand { StandAsWave bands.old first cube.old.shape.columns y 0 }

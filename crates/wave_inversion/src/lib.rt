@@ -1,4 +1,4 @@
-//! Inverting the prediction of a cube in place, eight bands in step as a wavefront: each band is a column behind the one below it.
+//! Inverting the prediction of a cube in place, up to eight bands in step as a wavefront: each band is a column behind the one below it.
 //!
 //! A sample waits for those of the previous bands at its column, and for the one to its west. So eight bands can go side by side if each
 //! has come one column less far than the band below it.

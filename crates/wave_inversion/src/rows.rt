@@ -22,7 +22,7 @@ pub(crate) fn fill_rows(
     lines: &mut [[i16; 64]; 8],
     rows: &mut [[i16; 8]; 64],
 )
-    requires bands { first + 8 ≤ cube.now.shape.bands }
+    requires bands { first < cube.now.shape.bands }
     requires row { y < cube.now.shape.rows }
     requires some { 0 < cube.now.shape.columns }
     requires origin { origin ≤ 65536 }
@@ -50,7 +50,7 @@ pub(crate) fn fill_lines(
 )
     requires below { below ≤ 8 }
     requires least { least ≤ 8 }
-    requires bands { first + 8 ≤ cube.now.shape.bands }
+    requires bands { first < cube.now.shape.bands }
     requires row { y < cube.now.shape.rows }
     requires some { 0 < cube.now.shape.columns }
     requires origin { origin ≤ 65536 }
@@ -76,19 +76,20 @@ fn fill_line(
 )
     requires lane { b < 8 }
     requires below { below ≤ 8 }
-    requires band { z < cube.now.shape.bands }
+    requires band { z < cube.now.shape.bands + 8 }
     requires row { y < cube.now.shape.rows }
     requires some { 0 < cube.now.shape.columns }
     requires origin { origin ≤ 65536 }
     requires bits { cube.now.kind.bits ≤ 12 }
-    ensures numbers { (i : ℕ) → i < 64 → below ≤ z → 7 + b ≤ origin + below + i → column_at (origin + below) i b ≤ cube.now.shape.columns
+    ensures numbers { (i : ℕ) → i < 64 → below ≤ z → z < cube.now.shape.bands + below → 7 + b ≤ origin + below + i → column_at (origin + below) i b ≤ cube.now.shape.columns
         → place lines.new b i ≡ pos (number_at cube.now (z - below) y (column_within cube.now.shape.columns (column_at (origin + below) i b))) }
     ensures none { (i : ℕ) → i < 64 → z < below → place lines.new b i ≡ pos 0 }
     ensures within { (i : ℕ) → i < 64 → (pos 0 ≤ℤ place lines.new b i) × (place lines.new b i ≤ℤ (pos (2 ^ cube.now.kind.bits) -ℤ pos 1)) }
     ensures others { (k i : ℕ) → k ≢ b → place lines.new k i ≡ place lines.old k i }
 {
     cube.prove_is_cube();
-    if z < below {
+    let bands = cube.shape().bands() as usize;
+    if z < below || bands + below <= z {
         clear_line(&mut lines[b]);
     } else {
         let row = cube.row((z - below) as u32, y);

@@ -1,4 +1,4 @@
-//! A piece of a row of eight bands, inverted as a wavefront.
+//! A piece of a row of at most eight bands, inverted as a wavefront.
 
 ghost use Rattle.std.specs.Prelude.{◌≡◌, ◌+◌, ◌-◌, ◌*◌, ◌<◌, ◌≤◌, ℕ, true, false, length};
 ghost use Rattle.cube_core.specs.Image.{Image};
@@ -22,7 +22,7 @@ use predict_core::band::Band;
 use predict_core::lane_weights::fill_weights;
 use predict_core::settings::Settings;
 
-/// Inverts row `y` of eight bands from step 8 to step `last`, and returns whether 16 bits hold their weights. If not, nothing is inverted.
+/// Inverts row `y` of at most eight bands from step 8 to step `last`, and returns whether 16 bits hold their weights. If not, nothing is inverted.
 ///
 /// At step k band `first + b` is at column `origin + k - 7 - b`. Where `origin` is 0 no band has come further than column 1, so each
 /// begins a step after the one below it. No band goes beyond the last column. The bands below them have come to the end of the
@@ -39,7 +39,7 @@ pub(crate) fn invert_tile<const Q: usize>(
 ) -> bool
     requires pairs { (form.pairs ≤ Q) × (Q ≤ 9) }
     requires inverting { (p : Parameters) × (d : Image) × IsInverting p cube.old d bands.old }
-    requires eight { first + 8 ≤ length bands.old }
+    requires some { first < length bands.old }
     requires row { (0 < y) × (y < cube.old.shape.rows) }
     requires last { (8 ≤ last) × (last ≤ 63) }
     requires begun { (origin ≡ 0 → 15 ≤ last) × (0 < origin → 7 ≤ origin) }
@@ -50,7 +50,7 @@ pub(crate) fn invert_tile<const Q: usize>(
     ensures inverted { (p : Parameters) (d : Image) → IsInverting p cube.old d bands.old → IsInverting p cube.new d bands.new }
     ensures alike { AreAlike cube.old cube.new }
     ensures many { length bands.new ≡ length bands.old }
-    ensures moved { result ≡ true → (b : ℕ) → b < 8 → (band_at bands.new (first + b)).t ≡ y * cube.old.shape.columns + end_column cube.old.shape.columns origin last b }
+    ensures moved { result ≡ true → (b : ℕ) → b < 8 → first + b < length bands.old → (band_at bands.new (first + b)).t ≡ y * cube.old.shape.columns + end_column cube.old.shape.columns origin last b }
     ensures kept { result ≡ false → bands.new ≡ bands.old }
     ensures others { AreKeptBeside bands.old bands.new first (first + 8) }
 {
@@ -62,7 +62,7 @@ pub(crate) fn invert_tile<const Q: usize>(
     true
 }
 
-/// Finds the offsets of eight bands, and their weights after them, and returns whether 16 bits hold their weights before.
+/// Finds the offsets of at most eight bands, and their weights after them, and returns whether 16 bits hold their weights before.
 fn invert_lanes<const Q: usize>(
     bands: &[Band],
     first: usize,
@@ -75,7 +75,7 @@ fn invert_lanes<const Q: usize>(
 ) -> bool
     requires pairs { (form.pairs ≤ Q) × (Q ≤ 9) }
     requires inverting { (p : Parameters) × (d : Image) × IsInverting p cube.now d bands.now }
-    requires eight { first + 8 ≤ length bands.now }
+    requires some { first < length bands.now }
     requires row { (0 < y) × (y < cube.now.shape.rows) }
     requires last { (8 ≤ last) × (last ≤ 63) }
     requires begun { (origin ≡ 0 → 15 ≤ last) × (0 < origin → 7 ≤ origin) }
@@ -112,14 +112,15 @@ fn fill_room<const Q: usize>(
 ) -> bool
     requires pairs { Q ≤ 9 }
     requires inverting { (p : Parameters) × (d : Image) × IsInverting p cube.now d bands.now }
-    requires eight { first + 8 ≤ length bands.now }
+    requires some { first < length bands.now }
     requires row { (0 < y) × (y < cube.now.shape.rows) }
     requires inside { origin + 2 ≤ cube.now.shape.columns }
     requires form { IsFormOf (narrow_form form) (band_at bands.now first).predictor cube.now y }
     ensures { result ≡ true → AreFilled Q (narrow_form form) cube.now bands.now first y origin room.new.above room.new.numbers room.new.lower room.new.own room.new.weights }
 {
     cube.prove_is_cube();
-    if !fill_weights::<Q>(&bands[first..first + 8], &mut room.weights) {
+    let last = bands.len().min(first + 8);
+    if !fill_weights::<Q>(&bands[first..last], &mut room.weights) {
         return false;
     }
     let lines = &mut room.lines;

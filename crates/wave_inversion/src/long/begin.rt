@@ -13,7 +13,9 @@ ghost use Rattle.wave_inversion.specs.Inversion.{band_at};
 ghost use Rattle.wave_inversion.specs.Wave.{AreOffsetRows, AreRowsBelow, kept_long_rows};
 ghost use Rattle.wave_inversion.specs.WaveForms.{long_form};
 ghost use Rattle.wave_inversion.specs.WaveLanes.{AreLanes, AreInStep, AreToBegin, column_at};
+ghost use Rattle.wave_inversion.specs.WaveTiles.{lane_count};
 
+use crate::finish::lane_count;
 use crate::long::form::LongForm;
 use crate::long::room::{LongWaveRoom, LongWeightRows};
 use crate::long::rows::put_number;
@@ -34,10 +36,10 @@ pub(crate) fn invert_steps<const Q: usize>(
     room: &mut LongWaveRoom,
 )
     requires few { Q ≤ 9 }
-    requires eight { first + 8 ≤ length bands.now }
+    requires some { first < length bands.now }
     requires to { (8 ≤ to) × (to ≤ 63) }
     requires begun { (origin ≡ 0 → 15 ≤ to) × (0 < origin → 7 ≤ origin) }
-    requires omega { (b : ℕ) → b < 8 → form.step.omega ≡ (band_at bands.now (first + b)).predictor.omega }
+    requires omega { (b : ℕ) → b < 8 → first + b < length bands.now → form.step.omega ≡ (band_at bands.now (first + b)).predictor.omega }
     requires above_in { AreOffsetRows form.greatest room.old.above }
     requires numbers_in { AreOffsetRows form.greatest room.old.numbers }
     requires lower_in { AreRowsBelow (2 ^ (form.step.bits + 2)) room.old.lower }
@@ -58,11 +60,13 @@ pub(crate) fn invert_steps<const Q: usize>(
         invert_by::<Q>(form, Stretch { from: 8, to }, room);
     } else {
         begin_lanes::<Q>(bands, first, form, room);
-        invert_by::<Q>(form, Stretch { from: 15, to }, room);
+        let from = 7 + lane_count(bands, first);
+        invert_by::<Q>(form, Stretch { from, to }, room);
     }
 }
 
-/// Inverts the prediction of the lanes that have begun, from step 8 to step 15, as one after another begins at column 1.
+/// Inverts the prediction of the lanes that have begun, from step 8 on, as one after another begins at column 1, until all that have a band
+/// have begun.
 ///
 /// A lane that is still to begin has steps without meaning: right before its first one it gets its weights, and the offset at column 0.
 fn begin_lanes<const Q: usize>(
@@ -72,8 +76,8 @@ fn begin_lanes<const Q: usize>(
     room: &mut LongWaveRoom,
 )
     requires few { Q ≤ 9 }
-    requires eight { first + 8 ≤ length bands.now }
-    requires omega { (b : ℕ) → b < 8 → form.step.omega ≡ (band_at bands.now (first + b)).predictor.omega }
+    requires some { first < length bands.now }
+    requires omega { (b : ℕ) → b < 8 → first + b < length bands.now → form.step.omega ≡ (band_at bands.now (first + b)).predictor.omega }
     requires above_in { AreOffsetRows form.greatest room.old.above }
     requires numbers_in { AreOffsetRows form.greatest room.old.numbers }
     requires lower_in { AreRowsBelow (2 ^ (form.step.bits + 2)) room.old.lower }
@@ -87,10 +91,11 @@ fn begin_lanes<const Q: usize>(
     ensures inverted { (p : Parameters) (s : ℕ → Constants) (d : Image) (y last : ℕ)
         → AreLanes Q (long_form form) p s d first y 0 last room.old.above room.old.lower → 15 ≤ last → AreToBegin Q p s d first y bands.now room.old.numbers
         → AreInStep Q p s d first y 0 last 1 8 room.old.numbers room.old.own room.old.weights
-        → AreInStep Q p s d first y 0 last 8 15 room.new.numbers room.new.own room.new.weights }
+        → AreInStep Q p s d first y 0 last (lane_count bands.now first) (7 + lane_count bands.now first) room.new.numbers room.new.own room.new.weights }
 {
     let start = room.numbers;
-    for b in 1..8usize {
+    let many = lane_count(bands, first);
+    for b in 1..many {
         let step = Stretch {
             from: 7 + b,
             to: 8 + b,
@@ -128,7 +133,7 @@ pub(crate) fn end_lanes<const Q: usize>(
     ensures kept { (p : Parameters) (s : ℕ → Constants) (d : Image) (first y origin : ℕ)
         → AreLanes Q (long_form form) p s d first y origin last room.old.above room.old.lower → 15 ≤ origin + from
         → AreInStep Q p s d first y origin last 8 from room.old.numbers room.old.own room.old.weights
-        → (b : ℕ) → b < last - from → column_at origin (from + b) b ≤ d.shape.columns
+        → (b : ℕ) → b < last - from → first + b < d.shape.bands → column_at origin (from + b) b ≤ d.shape.columns
         → AreWeightsAt p (s b).predictor d (first + b) (y * d.shape.columns + column_at origin (from + b) b) (take (s b).count (weights_of Q b (kept_long_rows room.new.ends b))) }
 {
     for b in 0..last - from {

@@ -23,7 +23,7 @@ pub(crate) fn fill_rows(
     rows: &mut [[i32; 8]; 64],
 )
     requires below { below ≤ 8 }
-    requires bands { first + 8 ≤ cube.now.shape.bands }
+    requires bands { first < cube.now.shape.bands }
     requires row { y < cube.now.shape.rows }
     requires some { 0 < cube.now.shape.columns }
     requires origin { origin ≤ 65536 }
@@ -50,19 +50,20 @@ fn fill_lane(
 )
     requires lane { b < 8 }
     requires below { below ≤ 8 }
-    requires band { z < cube.now.shape.bands }
+    requires band { z < cube.now.shape.bands + 8 }
     requires row { y < cube.now.shape.rows }
     requires some { 0 < cube.now.shape.columns }
     requires origin { origin ≤ 65536 }
     requires zeros { (i : ℕ) → i < 64 → place rows.old i b ≡ pos 0 }
-    ensures numbers { (i : ℕ) → i < 64 → least ≤ b → below ≤ z → 7 + b ≤ origin + below + i → column_at (origin + below) i b ≤ cube.now.shape.columns
+    ensures numbers { (i : ℕ) → i < 64 → least ≤ b → below ≤ z → z < cube.now.shape.bands + below → 7 + b ≤ origin + below + i → column_at (origin + below) i b ≤ cube.now.shape.columns
         → place rows.new i b ≡ pos (number_at cube.now (z - below) y (column_within cube.now.shape.columns (column_at (origin + below) i b))) }
     ensures none { (i : ℕ) → i < 64 → z < below → place rows.new i b ≡ pos 0 }
     ensures within { (i : ℕ) → i < 64 → (pos 0 ≤ℤ place rows.new i b) × (place rows.new i b ≤ℤ (pos (2 ^ cube.now.kind.bits) -ℤ pos 1)) }
     ensures others { (i k : ℕ) → k ≢ b → place rows.new i k ≡ place rows.old i k }
 {
     cube.prove_is_cube();
-    if below <= z && least <= b {
+    let bands = cube.shape().bands() as usize;
+    if below <= z && z < bands + below && least <= b {
         let row = cube.row((z - below) as u32, y);
         skew(row, origin + below, 7 + b, b, rows);
     }

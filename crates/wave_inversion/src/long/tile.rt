@@ -1,4 +1,4 @@
-//! A piece of a row of eight bands, inverted as a wavefront in lanes of 32 bits.
+//! A piece of a row of at most eight bands, inverted as a wavefront in lanes of 32 bits.
 
 ghost use Rattle.std.specs.Prelude.{◌≡◌, ◌+◌, ◌-◌, ◌*◌, ◌<◌, ◌≤◌, ℕ, length};
 ghost use Rattle.cube_core.specs.Image.{Image};
@@ -21,7 +21,7 @@ use crate::tile::constants_of;
 use cube_core::cube::Cube;
 use predict_core::band::Band;
 
-/// Inverts row `y` of eight bands from step 8 to step `last`.
+/// Inverts row `y` of at most eight bands from step 8 to step `last`.
 ///
 /// At step k band `first + b` is at column `origin + k - 7 - b`. Where `origin` is 0 no band has come further than column 1, so each
 /// begins a step after the one below it. No band goes beyond the last column. The bands below them have come to the end of the
@@ -38,7 +38,7 @@ pub(crate) fn invert_tile<const Q: usize>(
 )
     requires pairs { (form.pairs ≤ Q) × (Q ≤ 9) }
     requires inverting { (p : Parameters) × (d : Image) × IsInverting p cube.old d bands.old }
-    requires eight { first + 8 ≤ length bands.old }
+    requires some { first < length bands.old }
     requires row { (0 < y) × (y < cube.old.shape.rows) }
     requires last { (8 ≤ last) × (last ≤ 63) }
     requires begun { (origin ≡ 0 → 15 ≤ last) × (0 < origin → 7 ≤ origin) }
@@ -49,7 +49,7 @@ pub(crate) fn invert_tile<const Q: usize>(
     ensures inverted { (p : Parameters) (d : Image) → IsInverting p cube.old d bands.old → IsInverting p cube.new d bands.new }
     ensures alike { AreAlike cube.old cube.new }
     ensures many { length bands.new ≡ length bands.old }
-    ensures moved { (b : ℕ) → b < 8 → (band_at bands.new (first + b)).t ≡ y * cube.old.shape.columns + end_column cube.old.shape.columns origin last b }
+    ensures moved { (b : ℕ) → b < 8 → first + b < length bands.old → (band_at bands.new (first + b)).t ≡ y * cube.old.shape.columns + end_column cube.old.shape.columns origin last b }
     ensures others { AreKeptBeside bands.old bands.new first (first + 8) }
 {
     cube.prove_is_cube();
@@ -57,7 +57,7 @@ pub(crate) fn invert_tile<const Q: usize>(
     finish_lanes::<Q>(bands, first, cube, y, origin, last, &room.found);
 }
 
-/// Finds the offsets of eight bands, and their weights after them.
+/// Finds the offsets of at most eight bands, and their weights after them.
 fn invert_lanes<const Q: usize>(
     bands: &[Band],
     first: usize,
@@ -70,7 +70,7 @@ fn invert_lanes<const Q: usize>(
 )
     requires pairs { (form.pairs ≤ Q) × (Q ≤ 9) }
     requires inverting { (p : Parameters) × (d : Image) × IsInverting p cube.now d bands.now }
-    requires eight { first + 8 ≤ length bands.now }
+    requires some { first < length bands.now }
     requires row { (0 < y) × (y < cube.now.shape.rows) }
     requires last { (8 ≤ last) × (last ≤ 63) }
     requires begun { (origin ≡ 0 → 15 ≤ last) × (0 < origin → 7 ≤ origin) }
@@ -102,7 +102,7 @@ fn fill_room<const Q: usize>(
 )
     requires pairs { Q ≤ 9 }
     requires inverting { (p : Parameters) × (d : Image) × IsInverting p cube.now d bands.now }
-    requires eight { first + 8 ≤ length bands.now }
+    requires some { first < length bands.now }
     requires row { (0 < y) × (y < cube.now.shape.rows) }
     requires inside { origin + 2 ≤ cube.now.shape.columns }
     requires form { IsFormOf (long_form form) (band_at bands.now first).predictor cube.now y }

@@ -1,6 +1,6 @@
 //! The weights of eight bands of a wavefront in lanes of 32 bits, from each band into rows of pairs and back.
 
-ghost use Rattle.std.specs.Prelude.{◌≡◌, ◌≢◌, ◌+◌, ◌-◌, ◌*◌, ◌<◌, ◌≤◌, ℕ, pos, length, take, slice_index_or};
+ghost use Rattle.std.specs.Prelude.{◌≡◌, ◌≢◌, ◌+◌, ◌-◌, ◌*◌, ◌<◌, ◌≤◌, ℕ, pos, min, length, take, slice_index_or};
 ghost use Rattle.lanes.specs.Lanes.{place};
 ghost use Rattle.band_lanes.specs.Rows.{weights_of};
 ghost use Rattle.predict_core.specs.BandLanes.{HasWeights};
@@ -10,18 +10,18 @@ use band_lanes::pairs::MOST_PAIRS;
 use predict_core::band::Band;
 use sample_prediction::predictor::MOST_COMPONENTS;
 
-/// Writes the first 2·`Q` weights of the bands from the `first` on, one in each lane.
+/// Writes the first 2·`Q` weights of the bands from the `first` on, one in each lane: after the last band it stands for the others.
 pub(crate) fn fill_weights<const Q: usize>(
     bands: &[Band],
     first: usize,
     rows: &mut [[i32; 16]; MOST_PAIRS],
 )
     requires few { Q ≤ 9 }
-    requires eight { first + 8 ≤ length bands.now }
-    ensures { (b : ℕ) → b < 8 → HasWeights Q b (band_at bands.now (first + b)) rows.new }
+    requires some { first < length bands.now }
+    ensures { (b : ℕ) → b < 8 → HasWeights Q b (band_at bands.now (min (first + b) (length bands.now - 1))) rows.new }
 {
     for b in 0..8usize {
-        let z = first + b;
+        let z = (first + b).min(bands.len() - 1);
         put_band::<Q>(&bands[z], b, rows);
     }
 }

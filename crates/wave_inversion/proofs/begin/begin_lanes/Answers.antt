@@ -14,10 +14,11 @@ use Rattle.wave_inversion.proofs.begin.begin_lanes.Goals as goal
 pub loop-b-preserved : goal.loop-b-preserved
 loop-b-preserved g c =
     let kept = c.loop-b.invariant in let did = c.invert_by.ensures in let put = c.put_back.ensures in
-    let b : ℕ = c.loop-b.b in let z : ℕ = c.args.first + b in let fits : b < 8 = c.loop-b-test.true in
+    let b : ℕ = c.loop-b.b in let z : ℕ = c.args.first + b in let fits : b < 8 = omega (arith, c.loop-b-test.true, c.lane_count-many.ensures) in
+    let exists : z < length c.args.bands.now = omega (arith, c.loop-b-test.true, c.lane_count-many.ensures) in
     let here : c.index-bands-z.result ≡ band_at c.args.bands.now z =
     sym (get_or_from_slice_get c.args.bands.now z c.index-bands-z.result no_band
-    (slice_get_read c.args.bands.now (length c.args.bands.now) z c.index-bands-z.result refl (omega (arith, fits, c.requires.eight)) c.index-bands-z.is)) in
+    (slice_get_read c.args.bands.now (length c.args.bands.now) z c.index-bands-z.result refl exists c.index-bands-z.is)) in
     let has : HasWeights g.row.Q b (band_at c.args.bands.now z) c.put_band.new.rows =
     subst (λ (v : PredictorState). HasWeights g.row.Q b v c.put_band.new.rows) here (c.put_band.ensures.held c.if-not-put_band.false) in
     record {
@@ -32,7 +33,7 @@ loop-b-preserved g c =
       ];
       own_in = did.own_in;
       weights_in = λ k l. elim (cases_eq k b) [
-        | inl lane ↦ rw lane (subst (λ (n : ℕ). AllWithin (2 ^ (n + 2)) (weights_of g.row.Q b c.put_band.new.rows)) (sym (c.requires.omega b fits)) has.within)
+        | inl lane ↦ rw lane (subst (λ (n : ℕ). AllWithin (2 ^ (n + 2)) (weights_of g.row.Q b c.put_band.new.rows)) (sym (c.requires.omega b fits exists)) has.within)
         | inr apart ↦ rw (c.put_band.ensures.others k apart) (did.weights_in k l)
       ];
       inverted = λ p s d y last lanes more begin start.
@@ -45,6 +46,7 @@ loop-b-preserved g c =
 
 pub returns-clause-inverted : goal.returns-clause-inverted
 returns-clause-inverted g c said p s d y last lanes more begin start =
-    let done : c.loop-b.b ≡ 8 = omega (arith, c.loop-b-test.false, c.loop-b.auto) in
+    let done : c.loop-b.b ≡ c.lane_count-many.result = omega (arith, c.loop-b-test.false, c.loop-b.auto, c.lane_count-many.ensures, c.requires.some) in
+    rw (← c.lane_count-many.ensures) (
     subst (λ (b : ℕ). AreInStep g.row.Q p s d c.args.first y 0 last b (7 + b) c.loop-b.room.numbers c.loop-b.room.own c.loop-b.room.weights) done
-    (c.loop-b.invariant.inverted p s d y last lanes more begin start)
+    (c.loop-b.invariant.inverted p s d y last lanes more begin start))

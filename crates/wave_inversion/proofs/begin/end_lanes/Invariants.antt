@@ -25,7 +25,7 @@ invariant-loop-b g l = record {
   kept : (p : Params) (s : ℕ → Settings) (d : Image) (first y origin : ℕ)
       → AreLanes g.row.Q (narrow_form l.form) p s d first y origin l.last l.initial.room.above l.initial.room.lower → 15 ≤ origin + l.from
       → AreInStep g.row.Q p s d first y origin l.last 8 l.from l.initial.room.numbers l.initial.room.own l.initial.room.weights
-      → (b : ℕ) → b < l.b → column_at origin (l.from + b) b ≤ d.shape.columns
+      → (b : ℕ) → b < l.b → first + b < d.shape.bands → column_at origin (l.from + b) b ≤ d.shape.columns
       → AreWeightsAt p (s b).predictor d (first + b) (y * d.shape.columns + column_at origin (l.from + b) b)
       (take (s b).count (weights_of g.row.Q b (kept_rows l.room.ends b)));
 }

@@ -26,7 +26,7 @@ module _ (c : After-column_in-x) where
 
   here : get_or c.loop-b.bands z c.index-bands-z.result ≡ band_at c.loop-b.bands z
   here = get_or_from_slice_get c.loop-b.bands z (band_at c.loop-b.bands z) c.index-bands-z.result
-      (slice_get-get_or c.loop-b.bands z no_band (omega (arith, c.loop-b-test.true, c.requires.eight, c.loop-b.invariant.many)))
+      (slice_get-get_or c.loop-b.bands z no_band (omega (arith, c.loop-b-test.true, c.lane_count-many.ensures, c.loop-b.invariant.many)))
 
   come : c.args.y * c.loop-b.cube.shape.columns + c.column_in-x.result ≡ (band_at c.loop-b.bands z).t
   come = rw here at c.column_in-x.ensures
@@ -34,7 +34,7 @@ module _ (c : After-column_in-x) where
   bound : (band_at c.loop-b.bands z).t ≤ c.args.y * c.loop-b.cube.shape.columns + c.loop-b.cube.shape.columns
   bound =
       let columns = ap (λ (s : Sizes). s.columns) c.loop-b.invariant.alike.shape in
-      rw (c.loop-b.invariant.others z (λ low. omega arith), ← columns) (c.requires.stand c.loop-b.b c.loop-b-test.true).1
+      rw (c.loop-b.invariant.others z (λ low. omega arith), ← columns) (c.requires.stand c.loop-b.b (omega (arith, c.loop-b-test.true, c.lane_count-many.ensures)) (omega (arith, c.loop-b-test.true, c.lane_count-many.ensures))).1
 
 pub column_in-x-requires : goal.column_in-x-requires
 column_in-x-requires c =
@@ -42,8 +42,8 @@ column_in-x-requires c =
     let same : band_at c.loop-b.bands z ≡ band_at c.args.bands.now z = c.loop-b.invariant.others z (λ low. omega arith) in
     let here : get_or c.loop-b.bands z c.index-bands-z.result ≡ band_at c.loop-b.bands z =
     get_or_from_slice_get c.loop-b.bands z (band_at c.loop-b.bands z) c.index-bands-z.result
-    (slice_get-get_or c.loop-b.bands z no_band (omega (arith, c.loop-b-test.true, c.requires.eight, c.loop-b.invariant.many))) in
-    rw (here, same, ← columns) (c.requires.stand c.loop-b.b c.loop-b-test.true)
+    (slice_get-get_or c.loop-b.bands z no_band (omega (arith, c.loop-b-test.true, c.lane_count-many.ensures, c.loop-b.invariant.many))) in
+    rw (here, same, ← columns) (c.requires.stand c.loop-b.b (omega (arith, c.loop-b-test.true, c.lane_count-many.ensures)) (omega (arith, c.loop-b-test.true, c.lane_count-many.ensures)))
 
 pub invert_rest-requires-clause-inside : goal.invert_rest-requires-clause-inside
 invert_rest-requires-clause-inside c =
@@ -69,6 +69,6 @@ loop-b-preserved c =
 
 pub returns-clause-moved : goal.returns-clause-moved
 returns-clause-moved c z low high =
-    let done : c.loop-b.b ≡ 8 = omega (arith, c.loop-b-test.false, c.loop-b.auto.b-end) in
+    let done : c.loop-b.b ≡ c.lane_count-many.result = omega (arith, c.loop-b-test.false, c.loop-b.auto.b-end) in
     let here : c.args.first + (z - c.args.first) ≡ z = omega (arith, low) in
-    rw here at (c.loop-b.invariant.moved (z - c.args.first) (omega (arith, low, high, done)))
+    rw here at (c.loop-b.invariant.moved (z - c.args.first) (omega (arith, low, high, done, c.lane_count-many.ensures)))

@@ -9,7 +9,7 @@ use Rattle.wave_inversion.proofs.inversion.invert_rows.Goals as goal
 
 module _ (c : After-width_of) where
   within : c.args.first < length c.args.bands.now
-  within = omega (arith, c.requires.order, c.if-last-first-eq-MOST.true)
+  within = omega (arith, c.requires.order, c.if-last-first-ge-LEAST.true)
 
   here : get_or c.args.bands.now c.args.first c.index-bands-first.result ≡ band_at c.args.bands.now c.args.first
   here = get_or_from_slice_get c.args.bands.now c.args.first (band_at c.args.bands.now c.args.first) c.index-bands-first.result

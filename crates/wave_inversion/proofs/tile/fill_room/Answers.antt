@@ -1,4 +1,4 @@
-use Rattle.std.proofs.Common.{◌≡◌, ◌∙◌, ◌+◌, ◌-◌, ◌^◌, ◌<◌, ◌≤◌, ℕ, pos, ◌-ℤ◌, Some, List, min, length, take, drop, ap, subst, arith}
+use Rattle.std.proofs.Common.{◌≡◌, ◌∙◌, ◌+◌, ◌-◌, ◌^◌, ◌<◌, ℕ, pos, ◌-ℤ◌, Some, List, min, length, take, drop, ap, subst, arith}
 use Rattle.std.proofs.Common.{length-take, length-drop}
 use Rattle.std.specs.List.{slice_get}
 use Rattle.std.proofs.lemmas.Int.{ints}
@@ -14,16 +14,20 @@ use Rattle.wave_inversion.proofs.tile.fill_room.Given as given
 use Rattle.wave_inversion.proofs.tile.fill_room.Goals as goal
 use Rattle.wave_inversion.proofs.tile.fill_room.Goals.{After-fill_rows-2}
 
--- eight bands among all
-of_eight : (bands : List PredictorState) (first b : ℕ) → first + 8 ≤ length bands → b < 8
-    → slice_get (take (first + 8 - first) (drop first bands)) (min b (length (take (first + 8 - first) (drop first bands)) - 1)) ≡ Some (band_at bands (first + b))
-of_eight bands first b eight fits =
-    let n : first + 8 - first ≡ 8 = omega arith in
-    let long : length (take (first + 8 - first) (drop first bands)) ≡ 8 = omega (arith, length-take {A = PredictorState}, length-drop {A = PredictorState}, eight) in
-    let at : min b (length (take (first + 8 - first) (drop first bands)) - 1) ≡ b = omega (arith, long, fits) in
-    ap (slice_get (take (first + 8 - first) (drop first bands))) at
-    ∙ slice_get-get_or (take (first + 8 - first) (drop first bands)) b no_band (omega (arith, long, fits))
-    ∙ ap (λ (v : PredictorState). Some v) (get_or-take (first + 8 - first) (drop first bands) b no_band (omega (arith, n, fits)) ∙ get_or-drop first bands b no_band)
+-- at most eight bands among all
+of_eight : (bands : List PredictorState) (first last b : ℕ) → first < length bands → last ≡ min (length bands) (first + 8) → b < 8
+    → slice_get (take (last - first) (drop first bands)) (min b (length (take (last - first) (drop first bands)) - 1))
+    ≡ Some (band_at bands (min (first + b) (length bands - 1)))
+of_eight bands first last b some whole fits =
+    let k : ℕ = min (first + b) (length bands - 1) - first in
+    let long : length (take (last - first) (drop first bands)) ≡ last - first =
+    omega (arith, length-take {A = PredictorState}, length-drop {A = PredictorState}, some, whole) in
+    let at : min b (length (take (last - first) (drop first bands)) - 1) ≡ k = omega (arith, long, fits, some, whole) in
+    let inside : k < last - first = omega (arith, some, whole, fits) in
+    let here : first + k ≡ min (first + b) (length bands - 1) = omega (arith, some) in
+    ap (slice_get (take (last - first) (drop first bands))) at
+    ∙ slice_get-get_or (take (last - first) (drop first bands)) k no_band (omega (arith, long, inside))
+    ∙ ap (λ (v : PredictorState). Some v) (get_or-take (last - first) (drop first bands) k no_band inside ∙ get_or-drop first bands k no_band ∙ ap (band_at bands) here)
 
 greatest_is : (f : Form) (bits : ℕ) → f.step.bits ≡ bits → pos (2 ^ bits) -ℤ pos 1 ≡ f.greatest
 greatest_is f bits same = let e = f.greatest_is in let power = ap (λ (n : ℕ). 2 ^ n) same in omega (arith, ints, e, power)
@@ -61,8 +65,9 @@ returns g c said =
       lower_is = centrals_of_lines c.args.form.column c.fill_lines.new.lines c.fill_lines-2.new.lines c.fill_central_lines.new.out c.turn.new.rows
           (8 - c.args.form.previous) c.fill_central_lines.ensures.values c.fill_central_lines.ensures.none c.turn.ensures;
       own_is = c.fill_centrals.ensures.values;
-      has = λ b fits. c.fill_weights.ensures c.if-not-fill_weights.false b (band_at c.args.bands.now (c.args.first + b)) fits
-          (of_eight c.args.bands.now c.args.first b c.requires.eight fits);
+      has = λ b fits.
+          c.fill_weights.ensures c.if-not-fill_weights.false b (band_at c.args.bands.now (min (c.args.first + b) (length c.args.bands.now - 1))) fits
+          (of_eight c.args.bands.now c.args.first c.min-last.result b c.requires.some c.min-last.ensures fits);
       above_in = above_in g d;
       numbers_in = numbers_in g d;
       lower_in = λ k b h m. rw (c.turn.ensures k b h m) (c.fill_central_lines.ensures.below b k m h);

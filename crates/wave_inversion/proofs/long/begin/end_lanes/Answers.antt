@@ -26,10 +26,10 @@ loop-b-preserved g c =
           subst (λ (k : ℕ). AreInStep g.row.Q p s d first y origin c.args.last 8 k c.invert_by.new.room.numbers c.invert_by.new.room.own c.invert_by.new.room.weights) next
           (did.inverted p s d first y origin c.args.last 8 (rw (before.above, before.lower) lanes) (omega (arith, c.loop-b-test.true))
           (omega arith, omega (arith, far)) now);
-      kept = λ p s d first y origin lanes far start k l column. elim (cases_eq k b) [
-        | inl same ↦ rw (did.ends, same, here) ((before.inverted p s d first y origin lanes far start).weights_at b few (rw same at column))
+      kept = λ p s d first y origin lanes far start k l exists column. elim (cases_eq k b) [
+        | inl same ↦ rw (did.ends, same, here) ((before.inverted p s d first y origin lanes far start).weights_at b few (rw same at exists) (rw same at column))
         | inr apart ↦ rw (did.ends, get_or-set_other c.loop-b.room.ends b k (record { rows = c.loop-b.room.weights }) no_long_rows apart)
-            (before.kept p s d first y origin lanes far start k (omega (arith, l, apart)) column)
+            (before.kept p s d first y origin lanes far start k (omega (arith, l, apart)) exists column)
       ];
     }
 

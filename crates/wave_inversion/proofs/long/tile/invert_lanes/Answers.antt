@@ -1,10 +1,10 @@
-use Rattle.std.proofs.Common.{◌≡◌, length, sym, refl, arith}
+use Rattle.std.proofs.Common.{◌≡◌, ◌+◌, length, sym, refl, arith}
 use Rattle.std.proofs.lemmas.Option.{slice_get_read, get_or_from_slice_get}
 use Rattle.predict_core.specs.Following.{no_band}
 use Rattle.wave_inversion.specs.Inversion.{band_at}
 use Rattle.wave_inversion.specs.WaveForms.{long_form}
 use Rattle.wave_inversion.proofs.WaveFound.{are_found, omega_same, weights_small, settings}
-use Rattle.wave_inversion.proofs.WaveTiles.{IsBegun}
+use Rattle.wave_inversion.proofs.WaveBegun.{IsBegun}
 use Rattle.wave_inversion.proofs.long.tile.invert_lanes.Given as given
 use Rattle.wave_inversion.proofs.long.tile.invert_lanes.Goals as goal
 use Rattle.wave_inversion.proofs.long.tile.invert_lanes.Goals.{After-ended_of-lanes}
@@ -12,7 +12,7 @@ use Rattle.wave_inversion.proofs.long.tile.invert_lanes.Goals.{After-ended_of-la
 module _ (g : given.Over) (c : After-ended_of-lanes g) where
   here : c.index-bands-first.result ≡ band_at c.args.bands.now c.args.first
   here = sym (get_or_from_slice_get c.args.bands.now c.args.first c.index-bands-first.result no_band
-      (slice_get_read c.args.bands.now (length c.args.bands.now) c.args.first c.index-bands-first.result refl (omega (arith, c.requires.eight)) c.index-bands-first.is))
+      (slice_get_read c.args.bands.now (length c.args.bands.now) c.args.first c.index-bands-first.result refl c.requires.some c.index-bands-first.is))
 
   begun : IsBegun g.row.Q (long_form c.args.form) c.args.cube.now c.args.bands.now c.args.first c.args.y c.args.origin c.args.last
       c.constants_of-constants.result c.fill_room.new.room.above c.fill_room.new.room.numbers c.fill_room.new.room.lower c.fill_room.new.room.own
@@ -21,7 +21,7 @@ module _ (g : given.Over) (c : After-ended_of-lanes g) where
       let base = rw here at c.constants_of-constants.ensures in record {
         few = c.requires.pairs.1;
         pairs = c.requires.pairs.0;
-        eight = c.requires.eight;
+        some = c.requires.some;
         row = c.requires.row;
         steps = c.requires.last;
         inside = c.requires.inside.1;
@@ -35,7 +35,8 @@ module _ (g : given.Over) (c : After-ended_of-lanes g) where
       }
 
 pub invert_steps-requires-clause-omega : goal.invert_steps-requires-clause-omega
-invert_steps-requires-clause-omega g c = omega_same (begun g (goal.at.invert_steps-requires-clause-omega g c).After-ended_of-lanes) c.requires.inverting.2
+invert_steps-requires-clause-omega g c b fits exists =
+    omega_same (begun g (goal.at.invert_steps-requires-clause-omega g c).After-ended_of-lanes) c.requires.inverting.2 (c.args.first + b) exists
 
 pub invert_steps-requires-clause-weights_in : goal.invert_steps-requires-clause-weights_in
 invert_steps-requires-clause-weights_in g c = weights_small (begun g (goal.at.invert_steps-requires-clause-weights_in g c).After-ended_of-lanes) c.requires.inverting.2

@@ -1,0 +1,13 @@
+use Rattle.std.proofs.Common.{◌≡◌, ℕ, arith}
+use Rattle.wave_inversion.specs.WaveTiles.{lane_count}
+use Rattle.wave_inversion.proofs.WaveBegun.{lanes_all}
+use Rattle.wave_inversion.proofs.long.begin.invert_steps.Goals as goal
+
+pub returns-else-origin-gt0-clause-inverted : goal.returns-else-origin-gt0-clause-inverted
+returns-else-origin-gt0-clause-inverted g c p s d y last lanes fits begin start =
+    let zero : c.args.origin ≡ 0 = omega (arith, c.if-origin-gt0.false) in
+    let begun = begin zero in let did = c.begin_lanes.ensures in let many : ℕ = lane_count c.args.bands.now c.args.first in
+    let all = did.inverted p s d y last (rw zero at lanes) (let far = c.requires.begun.0 zero in omega (arith, far, fits)) begun (rw zero at start) in
+    lanes_all many (λ b few exists. omega (arith, few, exists, begun.many))
+    ((rw c.lane_count-from.ensures at c.invert_by-else-origin-gt0.ensures).inverted p s d c.args.first y c.args.origin last many (rw (did.above, did.lower) lanes) fits
+    (omega arith, omega arith) (rw zero all))
