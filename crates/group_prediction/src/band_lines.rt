@@ -10,7 +10,7 @@ ghost use Rattle.group_prediction.specs.GroupLines.{spectral_from, HoldsCentral,
 use crate::directions::fill_directions;
 use crate::lines::{fill_differences, fill_sums};
 use predict_core::band::first_spectral;
-use predict_core::lines::{Lines, clear_line, fill_band_lines, is_column};
+use predict_core::differences::lines::{Lines, clear_line, fill_band_lines, is_column};
 use predict_core::settings::Settings;
 use sample_prediction::predictor::{MOST_COMPONENTS, Predictor};
 use sample_prediction::rows::Rows;

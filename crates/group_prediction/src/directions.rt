@@ -7,7 +7,7 @@ ghost use Rattle.sample_prediction.specs.Lines.{line_sum, AreBandLines};
 ghost use Rattle.group_prediction.specs.GroupLines.{IsToldDifference, HoldsDirections};
 
 use crate::lines::fill_differences;
-use predict_core::lines::{Lines, clear_line};
+use predict_core::differences::lines::{Lines, clear_line};
 use predict_core::settings::Settings;
 use sample_prediction::predictor::MOST_COMPONENTS;
 use sample_prediction::rows::Rows;

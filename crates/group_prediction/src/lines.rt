@@ -6,7 +6,7 @@
 ghost use Rattle.std.specs.Prelude.{◌≡◌, ◌+◌, ◌*◌, ◌^◌, ◌<◌, ℕ, false, pos, ◌-ℤ◌, ◌≤ℤ◌, unsigned_abs, length, slice_index, slice_index_or};
 ghost use Rattle.sample_prediction.specs.Lines.{line_sum};
 
-use predict_core::lines::Lines;
+use predict_core::differences::lines::Lines;
 
 /// Writes the local sum of offsets of each place, where 16 bits hold it.
 pub(crate) fn fill_sums(column: bool, lines: &Lines, sums: &mut [i16; 64])

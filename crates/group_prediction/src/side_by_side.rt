@@ -22,7 +22,7 @@ use crate::steps::follow_piece;
 use band_lanes::pairs::{MOST_PAIRS, Pairs};
 use lanes::turn::turn_back;
 use predict_core::band::Band;
-use predict_core::known_run::first_later;
+use predict_core::forward::known_run::first_later;
 use predict_core::lane_weights::fill_weights;
 use sample_prediction::rows::Rows;
 

@@ -1,6 +1,6 @@
 -- The components of a place, gathered from the quads of a room.
 use Rattle.std.proofs.Common.{◌≡◌, ℕ, ◌≤◌, List, [], ◌∷◌, ◌++◌, length, take, replicate, get_or, ℤ, pos, refl, subst, ◌∙◌, arith}
-use Rattle.predict_core.specs.declared.room.Quad.{Quad}
+use Rattle.predict_core.specs.declared.differences.room.Quad.{Quad}
 use Rattle.predict_core.specs.Rooms.{quad_or_zeros, components_at}
 
 listed : (xs : List ℤ) → length xs ≡ 4 → get_or xs 0 (pos 0) ∷ get_or xs 1 (pos 0) ∷ get_or xs 2 (pos 0) ∷ get_or xs 3 (pos 0) ∷ [] ≡ xs

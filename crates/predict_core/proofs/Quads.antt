@@ -10,7 +10,7 @@ use Rattle.cube_core.specs.Image.{Image}
 use Rattle.cube_core.specs.Order.{from}
 use Rattle.cube_core.proofs.Lists.{length-from}
 use Rattle.sample_prediction.specs.declared.predictor.Predictor.{Predictor}
-use Rattle.predict_core.specs.declared.room.Quad.{Quad}
+use Rattle.predict_core.specs.declared.differences.room.Quad.{Quad}
 use Rattle.sample_prediction.specs.Predictor.{previous_bands, component_count}
 use Rattle.sample_prediction.specs.Differences.{central_difference, directional_differences, spectral_differences, difference_vector}
 use Rattle.sample_prediction.specs.Lines.{line_difference}

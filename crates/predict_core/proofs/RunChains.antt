@@ -4,7 +4,7 @@ use Rattle.std.proofs.lemmas.Bool.{cases_eq}
 use Rattle.header_bits.specs.declared.params.Params.{Params}
 use Rattle.cube_core.specs.Image.{Image}
 use Rattle.sample_prediction.specs.declared.predictor.Predictor.{Predictor}
-use Rattle.predict_core.specs.declared.room.Quad.{Quad}
+use Rattle.predict_core.specs.declared.differences.room.Quad.{Quad}
 use Rattle.predict_core.specs.declared.settings.Settings.{Settings}
 use Rattle.sample_prediction.specs.Bounds.{AllWithin}
 use Rattle.sample_prediction.specs.Chain.{AreWeightsAt}

@@ -6,7 +6,7 @@ use Rattle.std.proofs.Math.Pow.{pow_mono}
 use Rattle.cube_core.specs.Kind.{smin, smax}
 use Rattle.cube_core.specs.Image.{Image, IsCube, IsPlace}
 use Rattle.sample_prediction.specs.declared.predictor.Predictor.{Predictor}
-use Rattle.predict_core.specs.declared.room.Quad.{Quad}
+use Rattle.predict_core.specs.declared.differences.room.Quad.{Quad}
 use Rattle.sample_prediction.specs.LocalSum.{local_sum}
 use Rattle.sample_prediction.specs.Differences.{central_difference, difference_vector}
 use Rattle.sample_prediction.specs.Bounds.{AllWithin}

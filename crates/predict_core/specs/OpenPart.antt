@@ -4,7 +4,7 @@ use Rattle.std.specs.Prelude.{◌++◌, take, drop, replicate, length, if◌then
 use Rattle.cube_core.specs.Kind.{smin}
 use Rattle.cube_core.specs.Image.{Image, sample_at}
 use Rattle.sample_prediction.specs.declared.predictor.Predictor.{Predictor}
-use Rattle.predict_core.specs.declared.west.WestMasks.{WestMasks}
+use Rattle.predict_core.specs.declared.differences.west.WestMasks.{WestMasks}
 use Rattle.sample_prediction.specs.Predictor.{previous_bands}
 use Rattle.sample_prediction.specs.Differences.{spectral_differences}
 use Rattle.predict_core.specs.Rooms.{quads_of}

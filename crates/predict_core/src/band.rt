@@ -11,9 +11,9 @@ ghost use Rattle.sample_prediction.specs.Residual.{mapped, mapped_residual};
 ghost use Rattle.sample_prediction.specs.Bounds.{AllWithin};
 ghost use Rattle.predict_core.specs.Following.{Follows, IsMadeFor, MovesOn};
 
+use crate::differences::west::WestMasks;
 use crate::prediction::{first_scaled, learn, predict};
 use crate::settings::Settings;
-use crate::west::WestMasks;
 use cube_core::cube::Cube;
 use cube_core::fault::Fault;
 use cube_core::shape::Shape;

@@ -6,7 +6,7 @@ ghost use Rattle.sample_prediction.specs.Predictor.{previous_bands, component_co
 ghost use Rattle.sample_prediction.specs.Bounds.{IsPredictor};
 ghost use Rattle.predict_core.specs.OpenPart.{AreWestMasks};
 
-use crate::west::WestMasks;
+use crate::differences::west::WestMasks;
 use sample_prediction::predictor::Predictor;
 use sample_prediction::sample_limits::SampleLimits;
 

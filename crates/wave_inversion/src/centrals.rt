@@ -6,7 +6,7 @@ ghost use Rattle.wave_inversion.specs.Wave.{AreLineOffsets, AreOffsetLines, AreO
 
 use crate::form::Form;
 use crate::place::{around_at, difference_of, differences, local_sums, sum_of};
-use predict_core::lines::clear_line;
+use predict_core::differences::lines::clear_line;
 
 /// Writes the central differences of the rows from the second to number `last - 1`. Their offsets are `numbers`, and those of the row above at
 /// the same columns `above`. The other rows are zeros (CCSDS 123.0-B-1, "Local Differences").

@@ -10,7 +10,7 @@ ghost use Rattle.wave_inversion.specs.WaveRows.{AreLinesOf, AreRowsOf, IsSkewed}
 
 use cube_core::cube::Cube;
 use lanes::turn::turn;
-use predict_core::lines::clear_line;
+use predict_core::differences::lines::clear_line;
 
 /// Writes 64 rows of eight lanes: in row i, lane b has the offset at column `origin + i - 7 - b` of row `y` of band `first + b`, and after
 /// the last column that of the last one once more. It has 0 where there is no such column.

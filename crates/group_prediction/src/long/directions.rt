@@ -6,7 +6,7 @@ ghost use Rattle.lanes.specs.Lanes.{place};
 ghost use Rattle.sample_prediction.specs.Lines.{line_sum, AreBandLines};
 ghost use Rattle.group_prediction.specs.GroupLines.{IsLongDifference, HoldsDirections};
 
-use predict_core::lines::Lines;
+use predict_core::differences::lines::Lines;
 use predict_core::settings::Settings;
 use sample_prediction::predictor::MOST_COMPONENTS;
 use sample_prediction::rows::Rows;

@@ -9,8 +9,8 @@ ghost use Rattle.group_prediction.specs.GroupLines.{spectral_from, HoldsCentral,
 
 use crate::long::directions::{clear_line, fill_directions};
 use predict_core::band::first_spectral;
-use predict_core::fills::fill_own;
-use predict_core::lines::{Lines, fill_band_lines, is_column};
+use predict_core::differences::fills::fill_own;
+use predict_core::differences::lines::{Lines, fill_band_lines, is_column};
 use predict_core::settings::Settings;
 use sample_prediction::predictor::{MOST_COMPONENTS, Predictor};
 use sample_prediction::rows::Rows;

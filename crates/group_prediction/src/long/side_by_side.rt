@@ -26,7 +26,7 @@ use crate::places::Places;
 use band_lanes::four::rows::Rows as LaneRows;
 use lanes::turn_four::turn_four_back;
 use predict_core::band::Band;
-use predict_core::known_run::first_later;
+use predict_core::forward::known_run::first_later;
 use sample_prediction::predictor::MOST_COMPONENTS;
 use sample_prediction::rows::Rows;
 

@@ -1,0 +1,16 @@
+use Rattle.predict_core.proofs.RunChains.{predicted, can_follow}
+use Rattle.std.proofs.Common.{◌≤◌, arith}
+use Rattle.predict_core.proofs.forward.known_run.predict_by.Goals as goal
+
+pub returns : goal.returns
+returns g c =
+    let told = c.write_residuals.ensures in
+    predicted _ _ _ _ _ _ _ _ _ _ _ c.first_later-first.ensures c.follow_run.ensures.followed c.follow_run.ensures.bound told.bound told.residuals
+    told.weights
+
+pub follow_run-requires : goal.follow_run-requires
+follow_run-requires g c =
+    let r = c.requires.run in let first = c.first_later-first.ensures in
+    let order : c.first_later-first.result ≤ c.args.count = omega (arith, first.most, r.some) in
+    let run = can_follow _ _ _ _ _ _ _ _ _ _ _ _ c.requires.few c.requires.enough c.requires.quads c.requires.register r c.fill_run.ensures in
+    (omega arith, (run, (order, (first.later, r.weights_in))))

@@ -1,6 +1,0 @@
-use Rattle.std.proofs.Common.{arith}
-use Rattle.std.proofs.lemmas.Grind.{elements}
-use Rattle.predict_core.proofs.lines.copy_places.Goals as goal
-
-pub returns-then-count-eq64 : goal.returns-then-count-eq64
-returns-then-count-eq64 c = grind (arith, elements)

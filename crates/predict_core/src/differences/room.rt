@@ -1,0 +1,182 @@
+//! The local sums and differences of a run, which depend on the samples alone and are computed before its weights are known.
+//!
+//! The components of a place are in quads of four, each written by one loop over all places.
+
+ghost use Rattle.std.specs.Prelude.{◌≡◌, ◌+◌, ◌-◌, ◌<◌, ◌≤◌, ◌||◌, ◌==◌, ℕ, ℤ, [], ◌∷◌, ◌++◌, slice_index_or, pos};
+ghost use Rattle.cube_core.specs.Image.{IsPlace};
+ghost use Rattle.sample_prediction.specs.Differences.{directional_differences};
+ghost use Rattle.sample_prediction.specs.Lines.{line_sum, line_difference, AreBandLines};
+ghost use Rattle.predict_core.specs.Rooms.{IsRoom, components_at, quads_of, lower_differences};
+ghost use Rattle.predict_core.specs.OpenPart.{IsOpenPart};
+
+use crate::differences::below::{fill_below, fill_spectral};
+use crate::differences::fills::{
+    fill_directions, fill_four, fill_open_directions, fill_open_sums, fill_own,
+};
+use crate::differences::lines::{Lines, fill_band_lines, fill_line_above, is_column};
+use crate::settings::Settings;
+use cube_core::cube::Cube;
+use sample_prediction::rows::Rows;
+
+/// Four components at each place of a run.
+#[derive(Clone, Copy)]
+pub(crate) struct Quad {
+    pub places: [[i32; 4]; 64],
+}
+
+/// Writes the local sums of offsets, the central differences and the components of `count` places from row `y`,
+/// column `x` on.
+///
+/// Component k of a place is in quad k / 4, in lane k % 4; there are as many quads as are needed, or more. For
+/// the first place of a band nothing useful is written (CCSDS 123.0-B-1, "Local Sums", "Local Differences").
+pub(crate) fn fill_run<const Q: usize>(
+    settings: &Settings,
+    rows: &Rows,
+    y: u32,
+    x: u32,
+    count: usize,
+    sums: &mut [i32; 64],
+    own: &mut [i32; 64],
+    quads: &mut [Quad; Q],
+)
+    requires row { rows.now.y ≡ y }
+    requires place { IsPlace rows.now.image.shape settings.now.band y x }
+    requires columns { rows.now.image.shape.columns ≡ settings.now.columns }
+    requires some { 1 ≤ count }
+    requires few { count ≤ 64 }
+    requires inside { x + count ≤ rows.now.image.shape.columns }
+    requires enough { quads_of settings.now.count ≤ Q }
+    ensures { IsRoom settings.now.predictor rows.now.image settings.now.band y x count settings.now.count sums.new own.new quads.new }
+{
+    rows.prove_is_row();
+    let mut lines = Lines::empty();
+    fill_band_lines(
+        &settings.predictor,
+        rows,
+        settings.band,
+        y,
+        x,
+        count,
+        &mut lines,
+    );
+    if settings.predictor.reduced {
+        let column = is_column(settings.predictor.column, y);
+        fill_own(column, &lines, sums, own);
+        fill_spectral::<Q>(settings, rows, y, x, count, 0, 1, quads);
+    } else {
+        let first = &mut quads[0];
+        fill_first(settings, rows, y, x, count, &lines, sums, own, first);
+        fill_spectral::<Q>(settings, rows, y, x, count, 1, 2, quads);
+    }
+}
+
+/// Writes the local sums of offsets and the components of `count` places from row `y`, column `x` on, as if each offset to
+/// the west were 0: they depend on the row above and the previous bands alone.
+///
+/// The row is below the first one. The results are laid out as those of `fill_run`.
+pub(crate) fn fill_open_part<const Q: usize>(
+    settings: &Settings,
+    cube: &Cube,
+    y: u32,
+    x: u32,
+    count: usize,
+    sums: &mut [i32; 64],
+    quads: &mut [Quad; Q],
+)
+    requires place { IsPlace cube.now.shape settings.now.band y x }
+    requires columns { cube.now.shape.columns ≡ settings.now.columns }
+    requires later { 0 < y }
+    requires some { 1 ≤ count }
+    requires few { count ≤ 64 }
+    requires inside { x + count ≤ cube.now.shape.columns }
+    requires enough { quads_of settings.now.count ≤ Q }
+    ensures { (i : ℕ) → i < count → IsOpenPart settings.now.predictor cube.now settings.now.band y (x + i) settings.now.count
+        (slice_index_or sums.new i (pos 0)) (components_at (quads_of settings.now.count) quads.new i) }
+{
+    let column = settings.predictor.column;
+    let mut line = [0u16; 66];
+    let rows = Rows::of(cube, y);
+    let above = rows.row_above(settings.band);
+    fill_line_above(column, above, x as usize, count, &mut line);
+    if settings.predictor.reduced {
+        fill_open_sums(column, &line, sums);
+        fill_spectral::<Q>(settings, &rows, y, x, count, 0, 1, quads);
+    } else {
+        let mut below = Lines::empty();
+        fill_below(settings, &rows, y, x, count, 1, &mut below);
+        let first = &mut quads[0].places;
+        fill_open_directions(column, &line, &below, sums, first);
+        if x == 0 {
+            put_north_first(first);
+        }
+        fill_spectral::<Q>(settings, &rows, y, x, count, 1, 2, quads);
+    }
+}
+
+/// Replaces the north-western difference of the first place by the northern one.
+fn put_north_first(out: &mut [[i32; 4]; 64])
+    ensures first { (north west north_west below : ℤ) → slice_index_or out.old 0 [] ≡ north ∷ west ∷ north_west ∷ below ∷ []
+        → slice_index_or out.new 0 [] ≡ north ∷ west ∷ north ∷ below ∷ [] }
+    ensures others { (k : ℕ) → 0 < k → slice_index_or out.new k [] ≡ slice_index_or out.old k [] }
+{
+    let first = out[0];
+    out[0] = [first[0], first[1], first[0], first[3]];
+}
+
+/// Writes the sums, the central differences and the first quad in full mode: the three directions, and the
+/// band below.
+fn fill_first(
+    settings: &Settings,
+    rows: &Rows,
+    y: u32,
+    x: u32,
+    count: usize,
+    lines: &Lines,
+    sums: &mut [i32; 64],
+    own: &mut [i32; 64],
+    quad: &mut Quad,
+)
+    requires row { rows.now.y ≡ y }
+    requires place { IsPlace rows.now.image.shape settings.now.band y x }
+    requires columns { rows.now.image.shape.columns ≡ settings.now.columns }
+    requires some { 1 ≤ count }
+    requires few { count ≤ 64 }
+    requires inside { x + count ≤ rows.now.image.shape.columns }
+    requires lines { AreBandLines settings.now.predictor rows.now.image settings.now.band y x count lines.now.current lines.now.above }
+    ensures sums { (i : ℕ) → i < 64
+        → slice_index_or sums.new i (pos 0) ≡ pos (line_sum (settings.now.predictor.column || y == 0) lines.now.current lines.now.above i) }
+    ensures own { (i : ℕ) → i < 64 → slice_index_or own.new i (pos 0) ≡ line_difference (settings.now.predictor.column || y == 0) lines.now.current
+        lines.now.above i }
+    ensures quad { (i : ℕ) → i < count → 0 < y + (x + i) → slice_index_or quad.new.places i [] ≡ directional_differences settings.now.predictor rows.now.image
+        settings.now.band y (x + i) ++ lower_differences settings.now.predictor rows.now.image settings.now.band y (x + i) 1 1 }
+{
+    let mut below = Lines::empty();
+    fill_below(settings, rows, y, x, count, 1, &mut below);
+    if y == 0 {
+        let none = Lines::empty();
+        fill_own(true, lines, sums, own);
+        fill_four(true, &none, &none, &none, &below, &mut quad.places);
+        return;
+    }
+    fill_directions(
+        settings.predictor.column,
+        lines,
+        &below,
+        sums,
+        own,
+        &mut quad.places,
+    );
+    if x == 0 {
+        repeat_north(&mut quad.places);
+    }
+}
+
+/// Replaces the other two directional differences of the first place by the northern one.
+fn repeat_north(out: &mut [[i32; 4]; 64])
+    ensures first { (north west north_west below : ℤ) → slice_index_or out.old 0 [] ≡ north ∷ west ∷ north_west ∷ below ∷ []
+        → slice_index_or out.new 0 [] ≡ north ∷ north ∷ north ∷ below ∷ [] }
+    ensures others { (k : ℕ) → 0 < k → slice_index_or out.new k [] ≡ slice_index_or out.old k [] }
+{
+    let first = out[0];
+    out[0] = [first[0], first[0], first[0], first[3]];
+}
