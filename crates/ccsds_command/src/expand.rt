@@ -48,6 +48,9 @@ pub fn run_expand<S: Source, K: Sink>(
 }
 
 /// Returns the cube whose file the source has, if each of its samples fits in its bytes.
+///
+/// It isn't inlined: the rooms of the bands that are inverted side by side stand on the stack, which no other command should need.
+#[inline(never)]
 fn fitting_cube<S: Source>(alloc: Global, source: &mut S, layout: Layout) -> Result<Cube, Fault>
     requires { IsLayout layout }
     ensures cube { IfOk result (HasFileOf (S.left source.old)) }
