@@ -1,5 +1,5 @@
 -- Lists of eight, parts of lists, and what a turned square has at a place.
-use Rattle.std.proofs.Common.{ℕ, zero, suc, ◌+◌, ◌*◌, ◌<◌, ◌≤◌, ℤ, pos, List, [], ◌∷◌, ◌++◌, map, length, take, drop, set, get_or, ◌≡◌, refl, sym, ap, ap₂, ◌∙◌, arith}
+use Rattle.std.proofs.Common.{ℕ, zero, suc, ◌+◌, ◌*◌, ◌<◌, ◌≤◌, ℤ, List, [], ◌∷◌, ◌++◌, map, length, take, drop, set, get_or, ◌≡◌, refl, sym, ap, ap₂, ◌∙◌, arith}
 use Rattle.std.specs.Simd.{first_chunks}
 use Rattle.std.proofs.lemmas.List.{drop-drop, get_or-map, length-drop, take_all, drop_all, append-nil}
 use lib.Lanes.{chunk, put_chunk}
@@ -79,11 +79,12 @@ each_row q j a0 a1 a2 a3 a4 a5 a6 a7 = eight (λ b. place (a0 ∷ a1 ∷ a2 ∷ 
 -- ---- a turned square
 
 -- row i has number i of each row
-abbrev pub turned : List (List ℤ) → List (List ℤ)
-turned rows = map (λ i. map (λ row. lane row i) rows) (0 ∷ 1 ∷ 2 ∷ 3 ∷ 4 ∷ 5 ∷ 6 ∷ 7 ∷ [])
+abbrev pub turned : {X : Type 0} → X → List (List X) → List (List X)
+turned none rows = map (λ i. map (λ row. get_or row i none) rows) (0 ∷ 1 ∷ 2 ∷ 3 ∷ 4 ∷ 5 ∷ 6 ∷ 7 ∷ [])
 
-pub turned_place : (rows : List (List ℤ)) (i b : ℕ) → length rows ≡ 8 → i < 8 → b < 8 → place (turned rows) i b ≡ place rows b i
-turned_place rows i b l g h =
-    ap (λ row. lane row b) (get_or-map (λ j. map (λ row. lane row j) rows) (0 ∷ 1 ∷ 2 ∷ 3 ∷ 4 ∷ 5 ∷ 6 ∷ 7 ∷ []) i 0 [] g
-    ∙ ap (λ j. map (λ row. lane row j) rows) (eight (λ j. get_or (0 ∷ 1 ∷ 2 ∷ 3 ∷ 4 ∷ 5 ∷ 6 ∷ 7 ∷ []) j 0 ≡ j) refl refl refl refl refl refl refl refl i g))
-    ∙ get_or-map (λ row. lane row i) rows b [] (pos 0) (omega arith)
+pub turned_place : {X : Type 0} (none : X) (rows : List (List X)) (i b : ℕ) → length rows ≡ 8 → i < 8 → b < 8
+    → get_or (get_or (turned none rows) i []) b none ≡ get_or (get_or rows b []) i none
+turned_place none rows i b l g h =
+    ap (λ row. get_or row b none) (get_or-map (λ j. map (λ row. get_or row j none) rows) (0 ∷ 1 ∷ 2 ∷ 3 ∷ 4 ∷ 5 ∷ 6 ∷ 7 ∷ []) i 0 [] g
+    ∙ ap (λ j. map (λ row. get_or row j none) rows) (eight (λ j. get_or (0 ∷ 1 ∷ 2 ∷ 3 ∷ 4 ∷ 5 ∷ 6 ∷ 7 ∷ []) j 0 ≡ j) refl refl refl refl refl refl refl refl i g))
+    ∙ get_or-map (λ row. get_or row i none) rows b [] none (omega arith)

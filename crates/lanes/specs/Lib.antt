@@ -1,3 +1,4 @@
 pub mod Lanes
+pub mod Squares
 pub mod Turning
 pub mod TurningFour

@@ -10,6 +10,7 @@ pub mod four;
 pub mod lines;
 pub mod masks;
 pub mod narrow;
+pub mod square;
 pub mod turn;
 pub mod turn_four;
 pub mod unsigned;

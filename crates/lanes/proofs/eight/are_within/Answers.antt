@@ -1,4 +1,4 @@
-use Rattle.std.proofs.Common.{ℕ, ◌≡◌, ◌/◌, ◌%◌, ◌^◌, ◌≤◌, length, get_or, Bool, true, false, cond, leb, refl, sym, ap, ◌∙◌, arith, w16, eqb-true, leb-true}
+use Rattle.std.proofs.Common.{ℕ, ◌≡◌, ◌/◌, ◌%◌, ◌^◌, length, get_or, Bool, true, false, cond, leb, refl, sym, ap, ◌∙◌, arith, w16, eqb-true, leb-true}
 use Rattle.std.proofs.lemmas.Simd.{tops_compared, mask_l-mod, bit_mask_l, get_or-zip2, length-zip2}
 use lib.Lanes.{zip2, mask_l}
 use Rattle.lanes.proofs.Plain.{plain}

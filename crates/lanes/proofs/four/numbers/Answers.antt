@@ -1,4 +1,4 @@
-use Rattle.std.proofs.Common.{ℕ, List, ℤ, ◌≡◌, ◌∙◌, sym, subst, ap, map, to_z, of_z, SFits, w32, arith}
+use Rattle.std.proofs.Common.{ℕ, ◌∙◌, subst, ap, map, to_z, of_z, SFits, w32, arith}
 use Rattle.std.proofs.lemmas.List.{take_all}
 use Rattle.lanes.specs.Lanes.{lane}
 use Rattle.lanes.proofs.Ranges.{vector}

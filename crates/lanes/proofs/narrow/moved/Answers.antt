@@ -1,4 +1,4 @@
-use Rattle.std.proofs.Common.{◌+◌, ◌-◌, ◌<◌, ◌≤◌, ◌≡◌, refl, subst, sym, w16, ◌∷◌, [], ap, ◌∙◌, to_z, map, rules, arith}
+use Rattle.std.proofs.Common.{◌≡◌, refl, subst, sym, w16, ◌∷◌, [], ap, ◌∙◌, to_z, map, rules}
 use Rattle.lanes.specs.Lanes.{lane}
 use Rattle.lanes.proofs.Ranges.{vector}
 use Rattle.lanes.proofs.Moves.{AreFrom, from_1, from_2, from_3, from_4, from_5, from_6, from_7, moved_low, moved_high}
