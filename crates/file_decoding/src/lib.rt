@@ -3,5 +3,6 @@
 
 pub mod decode;
 pub mod decoder;
+mod eight_bands;
 pub mod minimum_length;
 mod tile;

@@ -10,18 +10,15 @@ ghost use Rattle.predict_core.specs.Precedence.{AreAlike};
 ghost use Rattle.file_decoding.specs.Tiles.{IsTile, HasStored, band_in, time_in, number_in};
 
 use crate::decoder::EntropyDecoder;
+use crate::eight_bands::EIGHT;
 use cube_core::cube::Cube;
 use cube_core::fault::Fault;
 use cube_core::order::{Order, Place};
 use header_bits::bit_reader::BitReader;
 use header_bits::params::Params;
-use std::simd::prelude::*;
 
 /// The greatest number of columns of a tile.
 pub(crate) const COLUMNS: usize = 64;
-
-/// How many bands are stored together, if a tile has so many.
-const EIGHT: usize = 8;
 
 /// Places that follow one another in encoding order, from `place` on: so many columns of one row, each with so many
 /// bands.
@@ -146,39 +143,6 @@ impl Tile {
         }
     }
 
-    /// Writes the numbers of eight bands of the tile, from band `first` on: a line for each, column after column.
-    fn turn_eight(&self, numbers: &[u16], first: usize, lines: &mut [[u16; COLUMNS]; EIGHT])
-        requires few { self.now.columns ≤ 64 }
-        requires bands { first + 8 ≤ self.now.bands }
-        requires whole { length numbers.now ≡ self.now.columns * self.now.bands }
-        ensures { (i b : ℕ) → i < self.now.columns → b < 8 → number_in lines.new b i ≡ slice_index numbers.now (i * self.now.bands + (first + b)) }
-    {
-        for i in 0..self.columns {
-            let at = i * self.bands + first;
-            put_column(&numbers[at..at + EIGHT], i, lines);
-        }
-    }
-
-    /// Stores lines of eight bands of the tile, from band `first` on.
-    fn store_eight(&self, cube: &mut Cube, first: usize, lines: &[[u16; COLUMNS]; EIGHT])
-        requires few { (self.now.columns ≤ 64) × (self.now.bands ≤ 2 ^ 16) }
-        requires columns { self.now.place.x + self.now.columns ≤ cube.old.shape.columns }
-        requires place { IsPlaceOf cube.old.shape self.now.place }
-        requires inside { self.now.place.z + self.now.bands ≤ cube.old.shape.bands }
-        requires bands { first + 8 ≤ self.now.bands }
-        requires numbers_in { (b i : ℕ) → b < 8 → i < self.now.columns → number_in lines.now b i < 2 ^ cube.old.kind.bits }
-        ensures stored { (c : Image) (numbers : List ℕ) → HasStored c cube.old self.now numbers first
-            → ((i b : ℕ) → i < self.now.columns → b < 8 → number_in lines.now b i ≡ slice_index numbers (i * self.now.bands + (first + b)))
-            → HasStored c cube.new self.now numbers (first + 8) }
-        ensures alike { AreAlike cube.old cube.new }
-    {
-        cube.prove_is_cube();
-        let Place { z, y, x } = self.place;
-        for b in 0..EIGHT {
-            cube.set_run(z + (first + b) as u32, y, x, &lines[b][..self.columns]);
-        }
-    }
-
     /// Returns the residuals of a band of the tile, column after column, followed by zeros.
     fn run_of(&self, deltas: &[u16], band: usize) -> [u16; 64]
         requires few { self.now.columns ≤ 64 }
@@ -193,41 +157,4 @@ impl Tile {
         }
         run
     }
-}
-
-/// Writes the numbers of a column of eight bands at place `i` of their lines.
-// All eight are loaded at once, and stored at known distances: a store each.
-#[inline(always)]
-fn put_column(column: &[u16], i: usize, lines: &mut [[u16; COLUMNS]; EIGHT])
-    requires place { i < 64 }
-    requires eight { length column.now ≡ 8 }
-    ensures here { (b : ℕ) → b < 8 → number_in lines.new b i ≡ slice_index column.now b }
-    ensures others { (b k : ℕ) → k ≢ i → number_in lines.new b k ≡ number_in lines.old b k }
-{
-    let numbers = u16x8::from_slice(column).to_array();
-    for b in 0..EIGHT {
-        put_number(numbers[b], b, i, lines);
-    }
-}
-
-/// Writes a number at place `i` of line `b`.
-#[inline(always)]
-fn put_number(number: u16, b: usize, i: usize, lines: &mut [[u16; COLUMNS]; EIGHT])
-    requires line { b < 8 }
-    requires place { i < 64 }
-    ensures here { number_in lines.new b i ≡ number }
-    ensures lines { (c k : ℕ) → c ≢ b → number_in lines.new c k ≡ number_in lines.old c k }
-    ensures places { (c k : ℕ) → k ≢ i → number_in lines.new c k ≡ number_in lines.old c k }
-{
-    set_number(number, i, &mut lines[b]);
-}
-
-/// Writes a number at place `i` of a line.
-#[inline(always)]
-fn set_number(number: u16, i: usize, line: &mut [u16; COLUMNS])
-    requires { i < 64 }
-    ensures here { slice_index line.new i ≡ number }
-    ensures others { (k : ℕ) → k ≢ i → slice_index line.new k ≡ slice_index line.old k }
-{
-    line[i] = number;
 }

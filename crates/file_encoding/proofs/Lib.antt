@@ -6,6 +6,7 @@ pub mod Columns
 pub mod Encoding
 pub mod Endings
 pub mod FoundRows
+pub mod GatheredSquares
 pub mod Groups
 pub mod InPlace
 pub mod KeptPlanes

@@ -6,6 +6,7 @@ mod each_row;
 pub mod encode;
 pub mod encoder;
 pub mod file_encoder;
+mod gather;
 mod in_place;
 mod kept_planes;
 pub mod laws;

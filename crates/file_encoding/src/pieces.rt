@@ -1,18 +1,16 @@
 //! Pieces of a row: some bands go over the same places, and what they then hold is sent column after column.
 
 ghost use Rattle.std.specs.Prelude.{◌≡◌, ◌+◌, ◌*◌, ◌<◌, ◌≤◌, length};
-ghost use Rattle.std.specs.List.{flat_map};
-ghost use Rattle.cube_core.specs.Order.{from};
 ghost use Rattle.file_encoding.specs.Walks.{IsSeen, AreAt, bands_of};
 ghost use Rattle.file_encoding.specs.Pieces.{ArePast, held_at, held_of};
 
+use crate::gather::{gather, gather_places};
 use crate::taker::Taker;
 use group_prediction::predict::predict_group;
 use group_prediction::room::GroupRoom;
 use header_bits::params::Params;
 use predict_core::band::Band;
 use predict_core::rows::Rows;
-use std::simd::prelude::*;
 
 /// The greatest number of residuals of several bands that are passed on at once.
 pub(crate) const RUN: usize = 2048;
@@ -42,64 +40,6 @@ pub(crate) fn predict_pieces(
         let last = bands.len().min(first + GROUP);
         predict_group(&mut bands[first..last], rows, x, count, group);
         first = last;
-    }
-}
-
-/// Writes the residuals that some bands hold of place `i` of their pieces, band after band.
-#[inline(always)]
-fn gather(i: usize, bands: &[Band], residuals: &mut [u16])
-    requires place { i < 64 }
-    requires room { length residuals.old ≡ length bands.now }
-    ensures { residuals.new ≡ held_at bands.now i }
-{
-    let eights = bands.len() / GROUP;
-    for k in 0..eights {
-        let first = k * GROUP;
-        let next = first + GROUP;
-        gather_eight(i, &bands[first..next], &mut residuals[first..next]);
-    }
-    let first = eights * GROUP;
-    gather_each(i, &bands[first..], &mut residuals[first..]);
-}
-
-/// `gather` for eight bands, whose residuals are put side by side first, and written at once.
-#[inline(always)]
-fn gather_eight(i: usize, bands: &[Band], residuals: &mut [u16])
-    requires place { i < 64 }
-    requires eight { length bands.now ≡ 8 }
-    requires room { length residuals.old ≡ 8 }
-    ensures { residuals.new ≡ held_at bands.now i }
-{
-    let mut column = [0; GROUP];
-    gather_each(i, bands, &mut column);
-    u16x8::from_array(column).copy_to_slice(residuals);
-}
-
-/// `gather`, one after another: of eight bands the compiler makes eight loads, and no loop.
-#[inline(always)]
-#[tactic(auto, using(std::proofs::lemmas::List::map_more))]
-fn gather_each(i: usize, bands: &[Band], residuals: &mut [u16])
-    requires place { i < 64 }
-    requires room { length residuals.old ≡ length bands.now }
-    ensures { residuals.new ≡ held_at bands.now i }
-{
-    for k in 0..bands.len() {
-        residuals[k] = bands[k].piece_residual(i);
-    }
-}
-
-/// Writes the residuals that some bands hold of `count` places of their pieces, from place `first` on, place after
-/// place.
-#[inline(always)]
-fn gather_places(first: usize, count: usize, bands: &[Band], residuals: &mut [u16])
-    requires places { first + count ≤ 64 }
-    requires few { length bands.now ≤ 2048 }
-    requires room { length residuals.old ≡ count * length bands.now }
-    ensures { residuals.new ≡ flat_map (λ i. held_at bands.now i) (from first count) }
-{
-    let many = bands.len();
-    for k in 0..count {
-        gather(first + k, bands, &mut residuals[k * many..(k + 1) * many]);
     }
 }
 

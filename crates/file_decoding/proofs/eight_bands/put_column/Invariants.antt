@@ -1,7 +1,7 @@
 use Rattle.std.proofs.Common.{◌≡◌, ◌≢◌, ◌<◌, ℕ}
 use Rattle.std.specs.List.{slice_index}
 use Rattle.file_decoding.specs.Tiles.{number_in}
-use Rattle.file_decoding.proofs.tile.put_column.Given as goal
+use Rattle.file_decoding.proofs.eight_bands.put_column.Given as goal
 
 abbrev pub invariant-loop-b : goal.invariant-loop-b
 invariant-loop-b l = record {
