@@ -14,10 +14,10 @@ ghost use Rattle.file_encoding.specs.Walks.{AreAt, IsSeen, bands_of};
 
 use crate::each_row::{ROOM, send_each_row};
 use crate::file_encoder::FileEncoder;
+use crate::pieces::PieceRoom;
 use crate::walk::send_line;
 use cube_core::fault::Fault;
 use cube_core::order::Order;
-use group_prediction::room::GroupRoom;
 use header_bits::params::Params;
 use predict_core::band::Band;
 use predict_core::bands::all_bands;
@@ -42,7 +42,7 @@ pub struct LineEncoder {
 /// Room for what is computed of a row. It is on the heap, so that an encoder is moved without it.
 #[derive(Clone, Copy)]
 struct LineRooms {
-    group: GroupRoom,
+    piece: PieceRoom,
     lines: [u16; ROOM],
 }
 
@@ -72,7 +72,7 @@ impl LineEncoder {
         let size = shape.bands() as usize * shape.columns() as usize;
         let above = vec![in alloc; 0u16; size]?;
         let rooms = LineRooms {
-            group: GroupRoom::new(),
+            piece: PieceRoom::new(),
             lines: [0; ROOM],
         };
         Ok(LineEncoder {
@@ -169,8 +169,15 @@ fn send_all_bands(
     ensures same { bands_of bands.new ≡ bands_of bands.old }
 {
     if depth == 1 {
-        send_each_row(rows, params, bands, &mut rooms.lines, &mut rooms.group, end)
+        send_each_row(
+            rows,
+            params,
+            bands,
+            &mut rooms.lines,
+            &mut rooms.piece.group,
+            end,
+        )
     } else {
-        send_line(rows, params, 0, &[], depth, bands, &mut rooms.group, end)
+        send_line(rows, params, 0, &[], depth, bands, &mut rooms.piece, end)
     }
 }

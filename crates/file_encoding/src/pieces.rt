@@ -18,6 +18,25 @@ pub(crate) const RUN: usize = 2048;
 /// The greatest number of bands that are predicted at once.
 pub(crate) const GROUP: usize = 8;
 
+/// Room for what is computed of pieces of several bands: what predicting them needs, and their residuals, column after column.
+///
+/// It takes some 114 KB, so it is made once and used for one piece after another. What it holds between them has no meaning.
+#[derive(Clone, Copy)]
+pub(crate) struct PieceRoom {
+    pub group: GroupRoom,
+    pub residuals: [u16; RUN],
+}
+
+impl PieceRoom {
+    /// Returns an empty room.
+    pub(crate) fn new() -> PieceRoom {
+        PieceRoom {
+            group: GroupRoom::new(),
+            residuals: [0; RUN],
+        }
+    }
+}
+
 /// Has each of some bands go over `count` places of a row, from column `x` on, and hold their residuals.
 pub(crate) fn predict_pieces(
     rows: &Rows,

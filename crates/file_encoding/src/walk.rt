@@ -9,12 +9,11 @@ ghost use Rattle.file_encoding.specs.Walks.{IsSeen, AreAt, AreFresh, bands_of};
 
 use crate::each_plane::send_bands;
 use crate::each_row::send_each_line;
-use crate::pieces::{RUN, predict_pieces, send_pieces};
+use crate::pieces::{PieceRoom, predict_pieces, send_pieces};
 use crate::taker::Taker;
 use cube_core::cube::Cube;
 use cube_core::order::Order;
 use cube_core::shape::Shape;
-use group_prediction::room::GroupRoom;
 use header_bits::params::Params;
 use predict_core::band::Band;
 use predict_core::rows::Rows;
@@ -28,7 +27,7 @@ pub(crate) fn send_row<T: Taker>(
     rows: &Rows,
     params: &Params,
     bands: &mut [Band],
-    group: &mut GroupRoom,
+    room: &mut PieceRoom,
     taker: &mut T,
 ) -> bool
     requires image { IsSeen params.now rows.now.image }
@@ -43,12 +42,11 @@ pub(crate) fn send_row<T: Taker>(
         return true;
     }
     let columns = rows.shape().columns();
-    let mut room = [0; RUN];
     let mut x = 0;
     while x < columns {
         let count = PIECE.min(columns - x);
-        predict_pieces(rows, params, x, count, bands, group);
-        if !send_pieces(count as usize, bands, &mut room, taker) {
+        predict_pieces(rows, params, x, count, bands, &mut room.group);
+        if !send_pieces(count as usize, bands, &mut room.residuals, taker) {
             return false;
         }
         x += count;
@@ -92,7 +90,7 @@ pub(crate) fn send_line<T: Taker>(
     deal: &[u8],
     depth: u32,
     bands: &mut [Band],
-    group: &mut GroupRoom,
+    room: &mut PieceRoom,
     taker: &mut T,
 ) -> bool
     requires image { IsSeen params.now rows.now.image }
@@ -113,7 +111,7 @@ pub(crate) fn send_line<T: Taker>(
         let _group = i;
         let end = total.min(first + depth);
         let count = count_own(deal, predictor, first, end);
-        if !send_row(rows, params, &mut bands[slot..slot + count], group, taker) {
+        if !send_row(rows, params, &mut bands[slot..slot + count], room, taker) {
             return false;
         }
         first = end;
@@ -142,11 +140,11 @@ fn send_lines<T: Taker>(
     if depth == 1 {
         return send_each_line(cube, params, bands, taker);
     }
-    let mut group = GroupRoom::new();
+    let mut room = PieceRoom::new();
     for y in 0..cube.shape().rows() {
         let rows = Rows::of(cube, y);
         if !send_line(
-            &rows, params, predictor, deal, depth, bands, &mut group, taker,
+            &rows, params, predictor, deal, depth, bands, &mut room, taker,
         ) {
             return false;
         }
