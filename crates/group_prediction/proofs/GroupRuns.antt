@@ -9,7 +9,8 @@ use Rattle.sample_prediction.specs.Bounds.{AllWithin}
 use Rattle.sample_prediction.specs.Chain.{AreWeightsAt}
 use Rattle.sample_prediction.specs.Prediction.{weight_vector}
 use Rattle.sample_prediction.specs.Residual.{run_residuals}
-use Rattle.predict_core.specs.RunChains.{IsFirstLater, IsFollowed, HasPredicted}
+use Rattle.predict_core.specs.ImageRuns.{IsFirstLater}
+use Rattle.predict_core.specs.RunChains.{IsFollowed, HasPredicted}
 use Rattle.predict_core.proofs.RunChains.{at_first}
 
 -- a first entry may be written before a list is cut or after

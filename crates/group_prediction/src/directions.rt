@@ -1,47 +1,42 @@
 //! The directional differences of a piece of one band, in lines of 16 bits.
 
 ghost use Rattle.std.specs.Prelude.{◌≡◌, ◌≢◌, ◌+◌, ◌<◌, ◌≤◌, ◌||◌, ◌==◌, ℕ, pos, length, slice_index, slice_index_or};
-ghost use Rattle.cube_core.specs.Image.{IsPlace};
 ghost use Rattle.lanes.specs.Lanes.{place};
 ghost use Rattle.sample_prediction.specs.Lines.{line_sum, AreBandLines};
+ghost use Rattle.predict_core.specs.ImageRuns.{IsRunOf};
 ghost use Rattle.group_prediction.specs.GroupLines.{IsToldDifference, HoldsDirections};
 
 use crate::lines::fill_differences;
 use predict_core::differences::lines::{Lines, clear_line};
+use predict_core::run::Run;
 use predict_core::settings::Settings;
 use sample_prediction::predictor::MOST_COMPONENTS;
-use sample_prediction::rows::Rows;
 
 /// Writes the directional differences into the first three lines of components (CCSDS 123.0-B-1, "Local Differences").
 pub(crate) fn fill_directions(
     settings: &Settings,
-    rows: &Rows,
-    y: u32,
-    x: u32,
-    count: usize,
+    run: &Run,
     lines: &Lines,
     sums: &[i16; 64],
     components: &mut [[i16; 64]; MOST_COMPONENTS],
 )
-    requires place { IsPlace rows.now.image.shape settings.now.band y x }
-    requires columns { rows.now.image.shape.columns ≡ settings.now.columns }
-    requires bits { rows.now.image.kind.bits ≤ 13 }
-    requires few { count ≤ 64 }
-    requires inside { x + count ≤ rows.now.image.shape.columns }
-    requires lines { AreBandLines settings.now.predictor rows.now.image settings.now.band y x count lines.now.current lines.now.above }
-    requires sums { (i : ℕ) → i < count → 0 < y + (x + i) → slice_index_or sums.now i (pos 0) ≡ pos (line_sum (settings.now.predictor.column || y == 0)
+    requires run { IsRunOf settings.now.band run.now }
+    requires columns { run.now.image.shape.columns ≡ settings.now.columns }
+    requires bits { run.now.image.kind.bits ≤ 13 }
+    requires lines { AreBandLines settings.now.predictor run.now.image settings.now.band run.now.y run.now.x run.now.count lines.now.current lines.now.above }
+    requires sums { (i : ℕ) → i < run.now.count → 0 < run.now.y + (run.now.x + i) → slice_index_or sums.now i (pos 0) ≡ pos (line_sum (settings.now.predictor.column || run.now.y == 0)
         lines.now.current lines.now.above i) }
-    ensures { HoldsDirections settings.now.predictor rows.now.image settings.now.band y x count components.new }
+    ensures { HoldsDirections settings.now.predictor settings.now.band run.now components.new }
 {
-    rows.prove_is_row();
-    if y == 0 {
+    run.prove_is_row();
+    if run.y() == 0 {
         clear(0, components);
         clear(1, components);
         clear(2, components);
         return;
     }
     fill_three(lines, sums, components);
-    if x == 0 {
+    if run.x() == 0 {
         repeat_north(components);
     }
 }

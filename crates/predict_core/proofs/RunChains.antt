@@ -10,7 +10,8 @@ use Rattle.sample_prediction.specs.Bounds.{AllWithin}
 use Rattle.sample_prediction.specs.Chain.{AreWeightsAt}
 use Rattle.sample_prediction.specs.Prediction.{weight_vector}
 use Rattle.sample_prediction.specs.Residual.{run_residuals}
-use Rattle.predict_core.specs.RunChains.{CanFollow, CanPredict, IsFirstLater, IsFollowed, HasPredicted}
+use Rattle.predict_core.specs.ImageRuns.{IsFirstLater}
+use Rattle.predict_core.specs.RunChains.{CanFollow, CanPredict, IsFollowed, HasPredicted}
 use Rattle.predict_core.specs.Rooms.{IsRoom, quads_of}
 use Rattle.predict_core.proofs.WholeRuns.{started}
 

@@ -40,12 +40,6 @@ pub record IsFollowed (s : Settings) (c : Image) (y x first : ℕ) (begun : List
       (local_sum s.predictor c s.band y (x + i))
   pub small : (i : ℕ) → first ≤ i → i < at → unsigned_abs (slice_index_or parts i (pos 0)) ≤ 18 * 2 ^ 20
 
--- `first` is the first place of a run from row y, column x on that isn't at t = 0: 1 if the run begins the band, else 0
-pub record IsFirstLater (y x first : ℕ) : Type 0 where
-  pub most : first ≤ 1
-  pub later : 0 < y + (x + first)
-  pub start : first ≡ 1 → y + x ≡ 0
-
 -- the next n places of a band, at most 64, are in one row, and the weights there are in their range
 pub record CanPredict (s : Settings) (c : Image) (y x n : ℕ) (ws : List ℤ) : Type 0 where
   pub place : IsPlace c.shape s.band y x

@@ -6,7 +6,9 @@
 ghost use Rattle.std.specs.Prelude.{◌≡◌, ◌+◌, ◌-◌, ◌*◌, ◌<◌, ◌≤◌, ℕ, false, ◌||◌, ◌==◌, pos, length, replicate, slice_index, slice_index_or};
 ghost use Rattle.sample_prediction.specs.Lines.{bordered, bordered_above, line_sum, AreLines, AreBandLines};
 ghost use Rattle.cube_core.specs.Image.{IsPlace};
+ghost use Rattle.predict_core.specs.ImageRuns.{IsRunOf};
 
+use crate::run::Run;
 use sample_prediction::predictor::Predictor;
 use sample_prediction::rows::Rows;
 
@@ -28,6 +30,23 @@ impl Lines {
             above: [0; 66],
         }
     }
+}
+
+/// Writes the lines of a run of band `z`.
+pub fn fill_run_lines(predictor: &Predictor, run: &Run, z: u32, lines: &mut Lines)
+    requires run { IsRunOf z run.now }
+    requires wide { predictor.now.column ≡ false → 2 ≤ run.now.image.shape.columns }
+    ensures { AreBandLines predictor.now run.now.image z run.now.y run.now.x run.now.count lines.new.current lines.new.above }
+{
+    fill_band_lines(
+        predictor,
+        run.rows(),
+        z,
+        run.y(),
+        run.x(),
+        run.count(),
+        lines,
+    );
 }
 
 /// Writes the lines of `count` places of band `z` from row `y`, column `x` on.

@@ -6,7 +6,8 @@ ghost use Rattle.header_bits.specs.declared.params.Params.{Params as Parameters}
 ghost use Rattle.sample_prediction.specs.Chain.{AreWeightsAt};
 ghost use Rattle.sample_prediction.specs.Residual.{run_residuals};
 ghost use Rattle.predict_core.specs.Rooms.{IsRoom, quads_of};
-ghost use Rattle.predict_core.specs.RunChains.{IsFirstLater, IsFollowed, CanPredict, HasPredicted};
+ghost use Rattle.predict_core.specs.ImageRuns.{IsFirstLater};
+ghost use Rattle.predict_core.specs.RunChains.{IsFollowed, CanPredict, HasPredicted};
 
 use crate::band::first_residual;
 use crate::differences::room::{Quad, fill_run};
