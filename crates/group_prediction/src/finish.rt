@@ -8,7 +8,7 @@ ghost use Rattle.sample_prediction.specs.Chain.{AreWeightsAt};
 ghost use Rattle.sample_prediction.specs.Residual.{run_residuals};
 ghost use Rattle.predict_core.specs.declared.settings.Settings.{Settings as Constants};
 ghost use Rattle.predict_core.specs.Following.{HoldsPiece};
-ghost use Rattle.predict_core.specs.ImageRuns.{IsFirstLater, IsRunOf};
+ghost use Rattle.predict_core.specs.ImageRuns.{IsRunOf};
 ghost use Rattle.group_prediction.specs.GroupLines.{HoldsSums};
 ghost use Rattle.group_prediction.specs.GroupPieces.{IsRunNext};
 ghost use Rattle.group_prediction.specs.GroupRooms.{AreConstants};
@@ -60,9 +60,8 @@ fn finish_piece<const Q: usize>(
 ) -> [u16; 64]
     requires pairs { Q ≤ 9 }
     requires lane { b < 8 }
-    requires run { CanPredict settings.now run.now.image run.now.y run.now.x run.now.count weights.old }
+    requires run { CanPredict settings.now run.now weights.old }
     requires bits { run.now.image.kind.bits ≤ 13 }
-    requires first { IsFirstLater run.now.y run.now.x run.now.first }
     requires enough { settings.now.count ≤ 2 * Q }
     requires sums { HoldsSums settings.now.predictor settings.now.band run.now sums.now }
     requires within { AllWithin (2 ^ (settings.now.predictor.omega + 2)) (weights_of Q b weight_rows.now) }

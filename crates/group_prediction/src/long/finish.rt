@@ -10,7 +10,7 @@ ghost use Rattle.sample_prediction.specs.LocalSum.{local_sum};
 ghost use Rattle.sample_prediction.specs.Residual.{run_residuals, mapped};
 ghost use Rattle.predict_core.specs.declared.settings.Settings.{Settings as Constants};
 ghost use Rattle.predict_core.specs.Following.{HoldsPiece};
-ghost use Rattle.predict_core.specs.ImageRuns.{IsFirstLater, IsRunOf};
+ghost use Rattle.predict_core.specs.ImageRuns.{IsRunOf};
 ghost use Rattle.group_prediction.specs.GroupLines.{HoldsSums};
 ghost use Rattle.group_prediction.specs.GroupPieces.{IsRunNext};
 ghost use Rattle.group_prediction.specs.GroupRooms.{AreConstants};
@@ -44,16 +44,7 @@ fn map_piece(
         settings.now.band run.now.y (run.now.x + i))) (sample_at run.now.image settings.now.band run.now.y (run.now.x + i)) }
 {
     run.prove_is_row();
-    let count = run.count();
-    map_run(
-        settings,
-        run.rows(),
-        run.y(),
-        run.x(),
-        parts,
-        sums,
-        &mut piece[..count],
-    );
+    map_run(settings, run, parts, sums, piece);
 }
 
 /// Writes the mapped residuals of a run whose differences are predicted.
@@ -95,8 +86,7 @@ fn finish_piece<const Q: usize>(
 ) -> [u16; 64]
     requires pairs { Q ≤ 9 }
     requires lane { b < 4 }
-    requires run { CanPredict settings.now run.now.image run.now.y run.now.x run.now.count weights.old }
-    requires first { IsFirstLater run.now.y run.now.x run.now.first }
+    requires run { CanPredict settings.now run.now weights.old }
     requires enough { settings.now.count ≤ 2 * Q }
     requires small { (i : ℕ) → run.now.first ≤ i → i < run.now.count → unsigned_abs (slice_index_or parts.now i (pos 0)) ≤ 18 * 2 ^ 20 }
     requires sums { HoldsSums settings.now.predictor settings.now.band run.now sums.now }

@@ -5,12 +5,10 @@
 
 ghost use Rattle.std.specs.Prelude.{◌≡◌, ◌+◌, ◌-◌, ◌*◌, ◌<◌, ◌≤◌, ℕ, false, ◌||◌, ◌==◌, pos, length, replicate, slice_index, slice_index_or};
 ghost use Rattle.sample_prediction.specs.Lines.{bordered, bordered_above, line_sum, AreLines, AreBandLines};
-ghost use Rattle.cube_core.specs.Image.{IsPlace};
 ghost use Rattle.predict_core.specs.ImageRuns.{IsRunOf};
 
 use crate::run::Run;
 use sample_prediction::predictor::Predictor;
-use sample_prediction::rows::Rows;
 
 /// The offsets of a run in its own row, `current`, and in the row `above` it, each with one place more on each side.
 #[derive(Clone, Copy)]
@@ -38,47 +36,7 @@ pub fn fill_run_lines(predictor: &Predictor, run: &Run, z: u32, lines: &mut Line
     requires wide { predictor.now.column ≡ false → 2 ≤ run.now.image.shape.columns }
     ensures { AreBandLines predictor.now run.now.image z run.now.y run.now.x run.now.count lines.new.current lines.new.above }
 {
-    fill_band_lines(
-        predictor,
-        run.rows(),
-        z,
-        run.y(),
-        run.x(),
-        run.count(),
-        lines,
-    );
-}
-
-/// Writes the lines of `count` places of band `z` from row `y`, column `x` on.
-pub fn fill_band_lines(
-    predictor: &Predictor,
-    rows: &Rows,
-    z: u32,
-    y: u32,
-    x: u32,
-    count: usize,
-    lines: &mut Lines,
-)
-    requires row { rows.now.y ≡ y }
-    requires place { IsPlace rows.now.image.shape z y x }
-    requires some { 1 ≤ count }
-    requires few { count ≤ 64 }
-    requires inside { x + count ≤ rows.now.image.shape.columns }
-    requires wide { predictor.now.column ≡ false → 2 ≤ rows.now.image.shape.columns }
-    ensures { AreBandLines predictor.now rows.now.image z y x count lines.new.current lines.new.above }
-{
-    let row = rows.row(z);
-    let above = rows.row_above(z);
-    fill_lines(
-        predictor.column,
-        y,
-        row,
-        above,
-        x as usize,
-        count,
-        &mut lines.current,
-        &mut lines.above,
-    );
+    fill_lines(predictor.column, run, run.row(z), run.row_above(z), lines);
 }
 
 /// Writes the neighbours of `count` places from column `x` on that are in the row above them.
@@ -102,35 +60,27 @@ pub(crate) fn fill_line_above(
     }
 }
 
-/// Writes the neighbours of `count` places of a row from column `x` on: to `current` those in the row itself,
-/// and to `upper` those in the row above.
+/// Writes the neighbours of a run: those in its row, and those in the row above.
 ///
 /// If a place has no such neighbour, a substitute makes the sum of all four the local sum. In the first row, where the
 /// local sum is that of the western neighbour alone, the western neighbours are written above their places
 /// (CCSDS 123.0-B-1, "Local Sums").
-fn fill_lines(
-    column: bool,
-    y: u32,
-    row: &[u16],
-    above: &[u16],
-    x: usize,
-    count: usize,
-    current: &mut [u16; 66],
-    upper: &mut [u16; 66],
-)
-    requires some { 1 ≤ count }
-    requires few { count ≤ 64 }
-    requires inside { x + count ≤ length row.now }
+fn fill_lines(column: bool, run: &Run, row: &[u16], above: &[u16], lines: &mut Lines)
+    requires some { 1 ≤ run.now.count }
+    requires few { run.now.count ≤ 64 }
+    requires inside { run.now.x + run.now.count ≤ length row.now }
     requires same { length above.now ≡ length row.now }
     requires wide { column ≡ false → 2 ≤ length row.now }
-    ensures { AreLines column y row.now above.now x count current.new upper.new }
+    ensures { AreLines column run.now.y row.now above.now run.now.x run.now.count lines.new.current lines.new.above }
 {
+    let x = run.x() as usize;
+    let count = run.count();
     let north = above[0];
-    fill_line(row, x, count, north, north, current);
-    if y == 0 {
-        upper[1..count + 1].copy_from_slice(&current[..count]);
+    fill_line(row, x, count, north, north, &mut lines.current);
+    if run.y() == 0 {
+        lines.above[1..count + 1].copy_from_slice(&lines.current[..count]);
     } else {
-        fill_line_above(column, above, x, count, upper);
+        fill_line_above(column, above, x, count, &mut lines.above);
     }
 }
 

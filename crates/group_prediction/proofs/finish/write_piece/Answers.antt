@@ -7,8 +7,7 @@ use Rattle.sample_prediction.specs.LocalSum.{local_sum}
 use Rattle.sample_prediction.specs.Residual.{mapped_residual}
 use Rattle.predict_core.specs.RunChains.{IsFollowed}
 use Rattle.predict_core.proofs.RunChains.{at_first}
-use Rattle.predict_core.proofs.WholeRuns.{run_is, mapped_at, with_first}
-use Rattle.group_prediction.proofs.GroupRuns.{set_taken}
+use Rattle.predict_core.proofs.WholeRuns.{run_is, mapped_at, with_first, set_taken}
 use Rattle.group_prediction.proofs.finish.write_piece.Goals as goal
 use Rattle.group_prediction.proofs.finish.write_piece.Goals.{After-map_piece}
 

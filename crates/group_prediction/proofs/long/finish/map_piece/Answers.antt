@@ -1,5 +1,4 @@
 use Rattle.std.proofs.Common.{◌≡◌, ◌+◌, ◌^◌, ◌<◌, ◌≤◌, ℕ, pos, ◌≤ℤ◌, length, take, get_or, List, arith, pow_mono}
-use Rattle.std.proofs.lemmas.List.{length-take-le}
 use Rattle.cube_core.specs.Kind.{smin, smax}
 use Rattle.sample_prediction.specs.LocalSum.{local_sum}
 use Rattle.sample_prediction.proofs.Spans.{span}
@@ -19,13 +18,8 @@ sum_in c i l h =
     (record { band = c.requires.run.place.band; row = c.requires.run.place.row; column = omega (arith, inside, l) }))
     (c.requires.sums i l h)
 
-taken : (n i : ℕ) (xs : List ℕ) → length xs ≡ 64 → n ≤ 64 → i < length (take n xs) → i < n
-taken n i xs long few l = let e = length-take-le n xs (omega (arith, long, few)) in omega (arith, e, l)
-
 pub map_run-requires-clause-sum_least : goal.map_run-requires-clause-sum_least
-map_run-requires-clause-sum_least c i l h =
-    (sum_in (goal.at.map_run-requires-clause-sum_least c).After-prove_is_row i (taken c.args.run.now.count i c.args.piece.now c.told-piece c.requires.run.few (rw c.count-count.ensures at l)) (rw (c.y.ensures, c.x.ensures) at h)).0
+map_run-requires-clause-sum_least c i l h = (sum_in (goal.at.map_run-requires-clause-sum_least c).After-prove_is_row i l h).0
 
 pub map_run-requires-clause-sum_most : goal.map_run-requires-clause-sum_most
-map_run-requires-clause-sum_most c i l h =
-    (sum_in (goal.at.map_run-requires-clause-sum_most c).After-prove_is_row i (taken c.args.run.now.count i c.args.piece.now c.told-piece c.requires.run.few (rw c.count-count.ensures at l)) (rw (c.y.ensures, c.x.ensures) at h)).1
+map_run-requires-clause-sum_most c i l h = (sum_in (goal.at.map_run-requires-clause-sum_most c).After-prove_is_row i l h).1
