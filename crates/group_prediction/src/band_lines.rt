@@ -11,7 +11,7 @@ use crate::directions::fill_directions;
 use crate::lines::{fill_differences, fill_sums};
 use predict_core::band::first_spectral;
 use predict_core::differences::lines::{Lines, clear_line, fill_run_lines, is_column};
-use predict_core::run::Run;
+use predict_core::run::{PIECE, Run};
 use predict_core::settings::Settings;
 use sample_prediction::predictor::{MOST_COMPONENTS, Predictor};
 
@@ -20,9 +20,9 @@ use sample_prediction::predictor::{MOST_COMPONENTS, Predictor};
 #[derive(Clone, Copy)]
 pub(crate) struct BandLines {
     pub band: u32,
-    pub sums: [i16; 64],
-    pub own: [i16; 64],
-    pub components: [[i16; 64]; MOST_COMPONENTS],
+    pub sums: [i16; PIECE],
+    pub own: [i16; PIECE],
+    pub components: [[i16; PIECE]; MOST_COMPONENTS],
 }
 
 /// Writes the offsets, the local sums of offsets and the central differences of a run of band `z`
@@ -31,8 +31,8 @@ pub(crate) fn fill_central(
     predictor: &Predictor,
     run: &Run,
     z: u32,
-    sums: &mut [i16; 64],
-    own: &mut [i16; 64],
+    sums: &mut [i16; PIECE],
+    own: &mut [i16; PIECE],
 ) -> Lines
     requires run { IsRunOf z run.now }
     requires bits { run.now.image.kind.bits ≤ 13 }
@@ -47,7 +47,7 @@ pub(crate) fn fill_central(
     let mut lines = Lines::empty();
     fill_run_lines(predictor, run, z, &mut lines);
     fill_sums(is_column(predictor.column, run.y()), &lines, sums);
-    fill_differences(&lines.current[1..65], sums, own);
+    fill_differences(&lines.current[1..PIECE + 1], sums, own);
     lines
 }
 
@@ -59,7 +59,7 @@ fn fill_lower(
     run: &Run,
     below: usize,
     before: &[BandLines],
-    out: &mut [i16; 64],
+    out: &mut [i16; PIECE],
 )
     requires run { IsRunOf settings.now.band run.now }
     requires columns { run.now.image.shape.columns ≡ settings.now.columns }
@@ -81,7 +81,7 @@ fn fill_lower(
             return;
         }
     }
-    let mut sums = [0; 64];
+    let mut sums = [0; PIECE];
     fill_central(&settings.predictor, run, z, &mut sums, out);
 }
 
@@ -91,7 +91,7 @@ fn fill_spectral(
     run: &Run,
     before: &[BandLines],
     n: usize,
-    components: &mut [[i16; 64]; MOST_COMPONENTS],
+    components: &mut [[i16; PIECE]; MOST_COMPONENTS],
 )
     requires run { IsRunOf settings.now.band run.now }
     requires columns { run.now.image.shape.columns ≡ settings.now.columns }
@@ -113,7 +113,7 @@ fn fill_spectral_line(
     run: &Run,
     before: &[BandLines],
     k: usize,
-    components: &mut [[i16; 64]; MOST_COMPONENTS],
+    components: &mut [[i16; PIECE]; MOST_COMPONENTS],
 )
     requires run { IsRunOf settings.now.band run.now }
     requires columns { run.now.image.shape.columns ≡ settings.now.columns }
@@ -186,7 +186,7 @@ fn fill_components(
 }
 
 /// Writes the numbers of another line.
-pub(crate) fn copy_line(from: &[i16; 64], line: &mut [i16; 64])
+pub(crate) fn copy_line(from: &[i16; PIECE], line: &mut [i16; PIECE])
     ensures { line.new ≡ from.now }
 {
     line.copy_from_slice(from);

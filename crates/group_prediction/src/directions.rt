@@ -8,7 +8,7 @@ ghost use Rattle.group_prediction.specs.GroupLines.{IsToldDifference, HoldsDirec
 
 use crate::lines::fill_differences;
 use predict_core::differences::lines::{Lines, clear_line};
-use predict_core::run::Run;
+use predict_core::run::{PIECE, Run};
 use predict_core::settings::Settings;
 use sample_prediction::predictor::MOST_COMPONENTS;
 
@@ -17,8 +17,8 @@ pub(crate) fn fill_directions(
     settings: &Settings,
     run: &Run,
     lines: &Lines,
-    sums: &[i16; 64],
-    components: &mut [[i16; 64]; MOST_COMPONENTS],
+    sums: &[i16; PIECE],
+    components: &mut [[i16; PIECE]; MOST_COMPONENTS],
 )
     requires run { IsRunOf settings.now.band run.now }
     requires columns { run.now.image.shape.columns ≡ settings.now.columns }
@@ -42,34 +42,34 @@ pub(crate) fn fill_directions(
 }
 
 /// Writes the differences of the offsets to the north, west and north-west of each place, where 16 bits hold them.
-fn fill_three(lines: &Lines, sums: &[i16; 64], components: &mut [[i16; 64]; MOST_COMPONENTS])
-    ensures north { (i : ℕ) → i < 64 → IsToldDifference (slice_index lines.now.above (i + 1)) (slice_index_or sums.now i (pos 0)) (place components.new 0 i) }
-    ensures west { (i : ℕ) → i < 64 → IsToldDifference (slice_index lines.now.current i) (slice_index_or sums.now i (pos 0)) (place components.new 1 i) }
-    ensures north_west { (i : ℕ) → i < 64 → IsToldDifference (slice_index lines.now.above i) (slice_index_or sums.now i (pos 0)) (place components.new 2 i) }
+fn fill_three(lines: &Lines, sums: &[i16; PIECE], components: &mut [[i16; PIECE]; MOST_COMPONENTS])
+    ensures north { (i : ℕ) → i < PIECE → IsToldDifference (slice_index lines.now.above (i + 1)) (slice_index_or sums.now i (pos 0)) (place components.new 0 i) }
+    ensures west { (i : ℕ) → i < PIECE → IsToldDifference (slice_index lines.now.current i) (slice_index_or sums.now i (pos 0)) (place components.new 1 i) }
+    ensures north_west { (i : ℕ) → i < PIECE → IsToldDifference (slice_index lines.now.above i) (slice_index_or sums.now i (pos 0)) (place components.new 2 i) }
 {
-    fill_component(&lines.above[1..65], sums, 0, components);
-    fill_component(&lines.current[..64], sums, 1, components);
-    fill_component(&lines.above[..64], sums, 2, components);
+    fill_component(&lines.above[1..PIECE + 1], sums, 0, components);
+    fill_component(&lines.current[..PIECE], sums, 1, components);
+    fill_component(&lines.above[..PIECE], sums, 2, components);
 }
 
 /// Writes the differences of the offsets of each place into line `k` of components, where 16 bits hold them.
 #[inline(always)]
 fn fill_component(
     offsets: &[u16],
-    sums: &[i16; 64],
+    sums: &[i16; PIECE],
     k: usize,
-    components: &mut [[i16; 64]; MOST_COMPONENTS],
+    components: &mut [[i16; PIECE]; MOST_COMPONENTS],
 )
-    requires long { length offsets.now ≡ 64 }
+    requires long { length offsets.now ≡ PIECE }
     requires line { k < 18 }
-    ensures told { (i : ℕ) → i < 64 → IsToldDifference (slice_index offsets.now i) (slice_index_or sums.now i (pos 0)) (place components.new k i) }
+    ensures told { (i : ℕ) → i < PIECE → IsToldDifference (slice_index offsets.now i) (slice_index_or sums.now i (pos 0)) (place components.new k i) }
     ensures others { (j i : ℕ) → j ≢ k → place components.new j i ≡ place components.old j i }
 {
     fill_differences(offsets, sums, &mut components[k]);
 }
 
 /// Replaces the other two directional differences of the first place by the northern one.
-fn repeat_north(components: &mut [[i16; 64]; MOST_COMPONENTS])
+fn repeat_north(components: &mut [[i16; PIECE]; MOST_COMPONENTS])
     ensures north { place components.new 0 0 ≡ place components.old 0 0 }
     ensures west { place components.new 1 0 ≡ place components.old 0 0 }
     ensures north_west { place components.new 2 0 ≡ place components.old 0 0 }
@@ -81,7 +81,7 @@ fn repeat_north(components: &mut [[i16; 64]; MOST_COMPONENTS])
 }
 
 /// Writes the first place of line `k` of components.
-fn put_first(value: i16, k: usize, components: &mut [[i16; 64]; MOST_COMPONENTS])
+fn put_first(value: i16, k: usize, components: &mut [[i16; PIECE]; MOST_COMPONENTS])
     requires { k < 18 }
     ensures first { place components.new k 0 ≡ value }
     ensures later { (i : ℕ) → 0 < i → place components.new k i ≡ place components.old k i }
@@ -91,7 +91,7 @@ fn put_first(value: i16, k: usize, components: &mut [[i16; 64]; MOST_COMPONENTS]
 }
 
 /// Writes the first place of a line.
-fn set_first(value: i16, line: &mut [i16; 64])
+fn set_first(value: i16, line: &mut [i16; PIECE])
     ensures first { slice_index_or line.new 0 (pos 0) ≡ value }
     ensures later { (i : ℕ) → 0 < i → slice_index_or line.new i (pos 0) ≡ slice_index_or line.old i (pos 0) }
 {
@@ -99,9 +99,9 @@ fn set_first(value: i16, line: &mut [i16; 64])
 }
 
 /// Writes zeros into line `k` of components.
-fn clear(k: usize, components: &mut [[i16; 64]; MOST_COMPONENTS])
+fn clear(k: usize, components: &mut [[i16; PIECE]; MOST_COMPONENTS])
     requires { k < 18 }
-    ensures zeros { (i : ℕ) → i < 64 → place components.new k i ≡ pos 0 }
+    ensures zeros { (i : ℕ) → i < PIECE → place components.new k i ≡ pos 0 }
     ensures others { (j i : ℕ) → j ≢ k → place components.new j i ≡ place components.old j i }
 {
     clear_line(&mut components[k]);

@@ -18,7 +18,7 @@ use crate::mapping::map_piece;
 use band_lanes::pairs::MOST_PAIRS;
 use predict_core::band::{Band, first_residual};
 use predict_core::lane_weights::take_weights;
-use predict_core::run::Run;
+use predict_core::run::{PIECE, Run};
 use predict_core::settings::Settings;
 use sample_prediction::predictor::MOST_COMPONENTS;
 
@@ -26,9 +26,9 @@ use sample_prediction::predictor::MOST_COMPONENTS;
 fn write_piece(
     settings: &Settings,
     run: &Run,
-    parts: &[i16; 64],
-    sums: &[i16; 64],
-    piece: &mut [u16; 64],
+    parts: &[i16; PIECE],
+    sums: &[i16; PIECE],
+    piece: &mut [u16; PIECE],
 )
     requires run { IsRunOf settings.now.band run.now }
     requires kind { run.now.image.kind ≡ settings.now.range.kind }
@@ -52,12 +52,12 @@ fn write_piece(
 fn finish_piece<const Q: usize>(
     settings: &Settings,
     run: &Run,
-    parts: &[i16; 64],
-    sums: &[i16; 64],
+    parts: &[i16; PIECE],
+    sums: &[i16; PIECE],
     weight_rows: &[[i16; 16]; MOST_PAIRS],
     b: usize,
     weights: &mut [i32; MOST_COMPONENTS],
-) -> [u16; 64]
+) -> [u16; PIECE]
     requires pairs { Q ≤ 9 }
     requires lane { b < 8 }
     requires run { CanPredict settings.now run.now weights.old }
@@ -70,7 +70,7 @@ fn finish_piece<const Q: usize>(
         → HasPredicted settings.now run.now.image run.now.y run.now.x run.now.count weights.old weights.new result }
     ensures within { AllWithin (2 ^ (settings.now.predictor.omega + 2)) weights.new }
 {
-    let mut piece = [0; 64];
+    let mut piece = [0; PIECE];
     write_piece(settings, run, parts, sums, &mut piece);
     take_weights::<Q>(weight_rows, b, weights);
     piece
@@ -80,8 +80,8 @@ fn finish_piece<const Q: usize>(
 pub(crate) fn finish_band<const Q: usize>(
     band: &mut Band,
     run: &Run,
-    parts: &[i16; 64],
-    sums: &[i16; 64],
+    parts: &[i16; PIECE],
+    sums: &[i16; PIECE],
     weight_rows: &[[i16; 16]; MOST_PAIRS],
     b: usize,
 )

@@ -14,7 +14,7 @@ ghost use Rattle.predict_core.specs.Rooms.{offset_number};
 ghost use Rattle.group_prediction.specs.GroupLines.{HoldsSums};
 
 use predict_core::narrow_offsets::{half_of, nearer, scaled_offset};
-use predict_core::run::Run;
+use predict_core::run::{PIECE, Run};
 use predict_core::settings::Settings;
 
 /// Writes the mapped residuals of a run.
@@ -24,9 +24,9 @@ use predict_core::settings::Settings;
 pub(crate) fn map_piece(
     settings: &Settings,
     run: &Run,
-    parts: &[i16; 64],
-    sums: &[i16; 64],
-    numbers: &mut [u16; 64],
+    parts: &[i16; PIECE],
+    sums: &[i16; PIECE],
+    numbers: &mut [u16; PIECE],
 )
     requires run { IsRunOf settings.now.band run.now }
     requires kind { run.now.image.kind ≡ settings.now.range.kind }
@@ -40,23 +40,23 @@ pub(crate) fn map_piece(
 {
     run.prove_is_row();
     let row = run.row(settings.band);
-    let mut offsets = [0u16; 64];
+    let mut offsets = [0u16; PIECE];
     copy_offsets(row, run.x() as usize, run.count(), &mut offsets);
     let greatest = settings.range.smax - settings.range.smin;
     map_places(greatest as i16, parts, sums, &offsets, numbers);
 }
 
 /// Writes `count` offsets of a row from column `x` on into an array of zeros.
-fn copy_offsets(row: &[u16], x: usize, count: usize, offsets: &mut [u16; 64])
-    requires few { count ≤ 64 }
+fn copy_offsets(row: &[u16], x: usize, count: usize, offsets: &mut [u16; PIECE])
+    requires few { count ≤ PIECE }
     requires inside { x + count ≤ length row.now }
-    requires clear { offsets.old ≡ replicate 64 0 }
+    requires clear { offsets.old ≡ replicate PIECE 0 }
     ensures written { (k : ℕ) → k < count → slice_index offsets.new k ≡ slice_index row.now (x + k) }
     ensures rest { (k : ℕ) → count ≤ k → slice_index offsets.new k ≡ 0 }
 {
-    if count == 64 {
+    if count == PIECE {
         // A copy of this fixed length is a few vector moves instead of a call.
-        offsets.copy_from_slice(&row[x..x + 64]);
+        offsets.copy_from_slice(&row[x..x + PIECE]);
     } else {
         offsets[..count].copy_from_slice(&row[x..x + count]);
     }
@@ -65,18 +65,18 @@ fn copy_offsets(row: &[u16], x: usize, count: usize, offsets: &mut [u16; 64])
 /// Writes the mapped residual of each place's offset.
 fn map_places(
     greatest: i16,
-    parts: &[i16; 64],
-    sums: &[i16; 64],
-    offsets: &[u16; 64],
-    out: &mut [u16; 64],
+    parts: &[i16; PIECE],
+    sums: &[i16; PIECE],
+    offsets: &[u16; PIECE],
+    out: &mut [u16; PIECE],
 )
     requires greatest_in { (pos 1 ≤ℤ greatest) × (greatest ≤ℤ pos 8191) }
-    requires offsets_in { (i : ℕ) → i < 64 → pos (slice_index offsets.now i) ≤ℤ greatest }
-    ensures bound { (i : ℕ) → i < 64 → pos (slice_index out.new i) ≤ℤ greatest }
-    ensures values { (i : ℕ) → i < 64 → slice_index out.new i
+    requires offsets_in { (i : ℕ) → i < PIECE → pos (slice_index offsets.now i) ≤ℤ greatest }
+    ensures bound { (i : ℕ) → i < PIECE → pos (slice_index out.new i) ≤ℤ greatest }
+    ensures values { (i : ℕ) → i < PIECE → slice_index out.new i
         ≡ offset_number greatest (slice_index_or parts.now i (pos 0)) (slice_index_or sums.now i (pos 0)) (slice_index offsets.now i) }
 {
-    for i in 0..64usize {
+    for i in 0..PIECE {
         out[i] = number_of_offset(greatest, parts[i], sums[i], offsets[i]);
     }
 }

@@ -24,16 +24,16 @@ use band_lanes::pairs::{MOST_PAIRS, Pairs};
 use lanes::turn::turn_back;
 use predict_core::band::Band;
 use predict_core::lane_weights::fill_weights;
-use predict_core::run::Run;
+use predict_core::run::{PIECE, Run};
 
 /// `follow_piece` with the constants of a band's predictor.
 fn follow_band<const Q: usize, const DEEP: bool>(
     band: &Band,
     run: &Run,
     pairs: &[Pairs; MOST_PAIRS],
-    own: &[[i16; 8]; 64],
+    own: &[[i16; 8]; PIECE],
     weights: &mut [[i16; 16]; MOST_PAIRS],
-    parts: &mut [[i16; 8]; 64],
+    parts: &mut [[i16; 8]; PIECE],
 )
     requires few { Q ≤ 9 }
     requires run { IsRunOf band.now.band run.now }

@@ -13,7 +13,7 @@ ghost use Rattle.predict_core.specs.RunChains.{AreStepsThere, IsFollowed};
 use crate::chain::follow_places;
 use band_lanes::pairs::{MOST_PAIRS, Pairs};
 use band_lanes::step::DeepStep;
-use predict_core::run::Run;
+use predict_core::run::{PIECE, Run};
 use predict_core::settings::Settings;
 use sample_prediction::exponent::{exponent_at, places_alike};
 
@@ -25,9 +25,9 @@ pub(crate) fn follow_piece<const Q: usize, const DEEP: bool>(
     settings: &Settings,
     run: &Run,
     pairs: &[Pairs; MOST_PAIRS],
-    own: &[[i16; 8]; 64],
+    own: &[[i16; 8]; PIECE],
     weights: &mut [[i16; 16]; MOST_PAIRS],
-    parts: &mut [[i16; 8]; 64],
+    parts: &mut [[i16; 8]; PIECE],
 )
     requires few { Q ≤ 9 }
     requires run { IsRunOf settings.now.band run.now }
@@ -67,15 +67,15 @@ pub(crate) fn follow_piece<const Q: usize, const DEEP: bool>(
 fn follow_by<const Q: usize, const DEEP: bool>(
     weights: &mut [[i16; 16]; MOST_PAIRS],
     pairs: &[Pairs; MOST_PAIRS],
-    own: &[[i16; 8]; 64],
-    parts: &mut [[i16; 8]; 64],
+    own: &[[i16; 8]; PIECE],
+    parts: &mut [[i16; 8]; PIECE],
     step: DeepStep,
     first: usize,
     last: usize,
 )
     requires few { Q ≤ 9 }
     requires order { first ≤ last }
-    requires last { last ≤ 64 }
+    requires last { last ≤ PIECE }
     requires shallow { DEEP ≡ false → step.bits ≤ 12 }
     requires below { (i : ℕ) → first ≤ i → i < last → AreBelow (2 ^ (step.bits + 2)) Q pairs.now i }
     requires weights_in { (b : ℕ) → b < 8 → AllWithin (2 ^ (step.omega + 2)) (weights_of Q b weights.old) }

@@ -15,7 +15,7 @@ ghost use Rattle.sample_prediction.specs.Residual.{theta_between, mapped, mapped
 ghost use Rattle.predict_core.specs.ImageRuns.{IsRunOf};
 ghost use Rattle.predict_core.specs.Rooms.{offset_number};
 
-use crate::run::Run;
+use crate::run::{PIECE, Run};
 use crate::settings::Settings;
 use sample_prediction::residual::prediction_of;
 
@@ -26,9 +26,9 @@ use sample_prediction::residual::prediction_of;
 pub fn map_run(
     settings: &Settings,
     run: &Run,
-    parts: &[i32; 64],
-    sums: &[i32; 64],
-    residuals: &mut [u16; 64],
+    parts: &[i32; PIECE],
+    sums: &[i32; PIECE],
+    residuals: &mut [u16; PIECE],
 )
     requires run { IsRunOf settings.now.band run.now }
     requires kind { run.now.image.kind ≡ settings.now.range.kind }
@@ -47,23 +47,23 @@ pub fn map_run(
 {
     run.prove_is_row();
     let row = run.row(settings.band);
-    let mut offsets = [0u16; 64];
+    let mut offsets = [0u16; PIECE];
     copy_offsets(row, run.x() as usize, run.count(), &mut offsets);
     let greatest = settings.range.smax - settings.range.smin;
     map_places(greatest, parts, sums, &offsets, residuals);
 }
 
 /// Writes `count` offsets of a row from column `x` on into an array of zeros.
-pub fn copy_offsets(row: &[u16], x: usize, count: usize, offsets: &mut [u16; 64])
+pub fn copy_offsets(row: &[u16], x: usize, count: usize, offsets: &mut [u16; PIECE])
     requires few { count ≤ 64 }
     requires inside { x + count ≤ length row.now }
     requires clear { offsets.old ≡ replicate 64 0 }
     ensures written { (k : ℕ) → k < count → slice_index offsets.new k ≡ slice_index row.now (x + k) }
     ensures rest { (k : ℕ) → count ≤ k → slice_index offsets.new k ≡ 0 }
 {
-    if count == 64 {
+    if count == PIECE {
         // A copy of this fixed length is a few vector moves instead of a call.
-        offsets.copy_from_slice(&row[x..x + 64]);
+        offsets.copy_from_slice(&row[x..x + PIECE]);
     } else {
         offsets[..count].copy_from_slice(&row[x..x + count]);
     }
@@ -72,19 +72,19 @@ pub fn copy_offsets(row: &[u16], x: usize, count: usize, offsets: &mut [u16; 64]
 /// Writes the mapped residual of each place's offset.
 fn map_places(
     greatest: i32,
-    parts: &[i32; 64],
-    sums: &[i32; 64],
-    offsets: &[u16; 64],
-    out: &mut [u16; 64],
+    parts: &[i32; PIECE],
+    sums: &[i32; PIECE],
+    offsets: &[u16; PIECE],
+    out: &mut [u16; PIECE],
 )
     requires greatest_in { (pos 1 ≤ℤ greatest) × (greatest ≤ℤ pos 65535) }
-    requires offsets_in { (i : ℕ) → i < 64 → pos (slice_index offsets.now i) ≤ℤ greatest }
-    ensures bound { (i : ℕ) → i < 64 → pos (slice_index out.new i) ≤ℤ greatest }
-    ensures values { (i : ℕ) → i < 64 → unsigned_abs (slice_index_or parts.now i (pos 0)) ≤ 18 * 2 ^ 20 → pos 0 ≤ℤ slice_index_or sums.now i (pos 0)
+    requires offsets_in { (i : ℕ) → i < PIECE → pos (slice_index offsets.now i) ≤ℤ greatest }
+    ensures bound { (i : ℕ) → i < PIECE → pos (slice_index out.new i) ≤ℤ greatest }
+    ensures values { (i : ℕ) → i < PIECE → unsigned_abs (slice_index_or parts.now i (pos 0)) ≤ 18 * 2 ^ 20 → pos 0 ≤ℤ slice_index_or sums.now i (pos 0)
         → slice_index_or sums.now i (pos 0) ≤ℤ pos 262140
         → slice_index out.new i ≡ offset_number greatest (slice_index_or parts.now i (pos 0)) (slice_index_or sums.now i (pos 0)) (slice_index offsets.now i) }
 {
-    for i in 0..64usize {
+    for i in 0..PIECE {
         out[i] = number_of_offset(greatest, parts[i], sums[i], offsets[i]);
     }
 }

@@ -8,6 +8,9 @@ ghost use Rattle.predict_core.specs.ImageRuns.{IsFirstLater};
 use sample_prediction::rows::Rows;
 use std::marker::Model;
 
+/// The most places of a run: the length of a piece.
+pub const PIECE: usize = 64;
+
 /// Places of a row, one after another: `count` of them, from column `x` on, in the row of `rows`.
 ///
 /// Contracts see the image, the row `y`, the column `x`, the number of places, and which of them is the first that isn't

@@ -19,7 +19,7 @@ ghost use Rattle.predict_core.specs.RunChains.{IsFollowed, CanPredict, HasPredic
 use crate::long::weights::take_weights;
 use predict_core::band::{Band, first_residual};
 use predict_core::mapping::map_run;
-use predict_core::run::Run;
+use predict_core::run::{PIECE, Run};
 use predict_core::settings::Settings;
 use sample_prediction::predictor::MOST_COMPONENTS;
 
@@ -27,16 +27,16 @@ use sample_prediction::predictor::MOST_COMPONENTS;
 fn map_piece(
     settings: &Settings,
     run: &Run,
-    parts: &[i32; 64],
-    sums: &[i32; 64],
-    piece: &mut [u16; 64],
+    parts: &[i32; PIECE],
+    sums: &[i32; PIECE],
+    piece: &mut [u16; PIECE],
 )
     requires run { IsRunOf settings.now.band run.now }
     requires columns { run.now.image.shape.columns ≡ settings.now.columns }
     requires kind { run.now.image.kind ≡ settings.now.range.kind }
     requires small { (i : ℕ) → i < run.now.count → 0 < run.now.y + (run.now.x + i) → unsigned_abs (slice_index_or parts.now i (pos 0)) ≤ 18 * 2 ^ 20 }
     requires sums { HoldsSums settings.now.predictor settings.now.band run.now sums.now }
-    ensures long { length piece.new ≡ 64 }
+    ensures long { length piece.new ≡ PIECE }
     ensures bound { (i : ℕ) → i < run.now.count → slice_index_or piece.new i 0 < 2 ^ run.now.image.kind.bits }
     ensures values { (i : ℕ) → i < run.now.count → 0 < run.now.y + (run.now.x + i)
         → slice_index_or piece.new i 0
@@ -51,9 +51,9 @@ fn map_piece(
 fn write_piece(
     settings: &Settings,
     run: &Run,
-    parts: &[i32; 64],
-    sums: &[i32; 64],
-    piece: &mut [u16; 64],
+    parts: &[i32; PIECE],
+    sums: &[i32; PIECE],
+    piece: &mut [u16; PIECE],
 )
     requires run { IsRunOf settings.now.band run.now }
     requires columns { run.now.image.shape.columns ≡ settings.now.columns }
@@ -78,12 +78,12 @@ fn write_piece(
 fn finish_piece<const Q: usize>(
     settings: &Settings,
     run: &Run,
-    parts: &[i32; 64],
-    sums: &[i32; 64],
+    parts: &[i32; PIECE],
+    sums: &[i32; PIECE],
     weight_rows: &[[i32; 4]; MOST_COMPONENTS],
     b: usize,
     weights: &mut [i32; MOST_COMPONENTS],
-) -> [u16; 64]
+) -> [u16; PIECE]
     requires pairs { Q ≤ 9 }
     requires lane { b < 4 }
     requires run { CanPredict settings.now run.now weights.old }
@@ -96,7 +96,7 @@ fn finish_piece<const Q: usize>(
         → HasPredicted settings.now run.now.image run.now.y run.now.x run.now.count weights.old weights.new result }
     ensures within { AllWithin (2 ^ (settings.now.predictor.omega + 2)) weights.new }
 {
-    let mut piece = [0; 64];
+    let mut piece = [0; PIECE];
     write_piece(settings, run, parts, sums, &mut piece);
     take_weights::<Q>(weight_rows, b, weights);
     piece
@@ -106,8 +106,8 @@ fn finish_piece<const Q: usize>(
 pub(crate) fn finish_band<const Q: usize>(
     band: &mut Band,
     run: &Run,
-    parts: &[i32; 64],
-    sums: &[i32; 64],
+    parts: &[i32; PIECE],
+    sums: &[i32; PIECE],
     weight_rows: &[[i32; 4]; MOST_COMPONENTS],
     b: usize,
 )

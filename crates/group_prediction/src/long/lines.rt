@@ -11,7 +11,7 @@ use crate::long::directions::{clear_line, fill_directions};
 use predict_core::band::first_spectral;
 use predict_core::differences::fills::fill_own;
 use predict_core::differences::lines::{Lines, fill_run_lines, is_column};
-use predict_core::run::Run;
+use predict_core::run::{PIECE, Run};
 use predict_core::settings::Settings;
 use sample_prediction::predictor::{MOST_COMPONENTS, Predictor};
 
@@ -20,9 +20,9 @@ use sample_prediction::predictor::{MOST_COMPONENTS, Predictor};
 #[derive(Clone, Copy)]
 pub(crate) struct LongLines {
     pub band: u32,
-    pub sums: [i32; 64],
-    pub own: [i32; 64],
-    pub components: [[i32; 64]; MOST_COMPONENTS],
+    pub sums: [i32; PIECE],
+    pub own: [i32; PIECE],
+    pub components: [[i32; PIECE]; MOST_COMPONENTS],
 }
 
 /// Writes the offsets, the local sums of offsets and the central differences of a run of band `z`
@@ -31,8 +31,8 @@ pub(crate) fn fill_central(
     predictor: &Predictor,
     run: &Run,
     z: u32,
-    sums: &mut [i32; 64],
-    own: &mut [i32; 64],
+    sums: &mut [i32; PIECE],
+    own: &mut [i32; PIECE],
 ) -> Lines
     requires run { IsRunOf z run.now }
     requires wide { predictor.now.column ≡ false → 2 ≤ run.now.image.shape.columns }
@@ -58,7 +58,7 @@ fn fill_lower(
     run: &Run,
     below: usize,
     before: &[LongLines],
-    out: &mut [i32; 64],
+    out: &mut [i32; PIECE],
 )
     requires run { IsRunOf settings.now.band run.now }
     requires columns { run.now.image.shape.columns ≡ settings.now.columns }
@@ -80,12 +80,12 @@ fn fill_lower(
         }
     }
     let z = settings.band - below as u32;
-    let mut sums = [0; 64];
+    let mut sums = [0; PIECE];
     fill_central(&settings.predictor, run, z, &mut sums, out);
 }
 
 /// Writes the central differences of the band that is `below` bands below the next one to these lines' band.
-fn copy_lower(reduced: bool, below: usize, lines: &LongLines, out: &mut [i32; 64])
+fn copy_lower(reduced: bool, below: usize, lines: &LongLines, out: &mut [i32; PIECE])
     requires { (1 ≤ below) × (below ≤ 15) }
     ensures own { below ≡ 1 → out.new ≡ lines.now.own }
     ensures lower { 2 ≤ below → out.new ≡ slice_index_or lines.now.components ((if reduced then 0 else 3) + below - 2) [] }
@@ -103,7 +103,7 @@ fn fill_spectral(
     run: &Run,
     before: &[LongLines],
     n: usize,
-    components: &mut [[i32; 64]; MOST_COMPONENTS],
+    components: &mut [[i32; PIECE]; MOST_COMPONENTS],
 )
     requires run { IsRunOf settings.now.band run.now }
     requires columns { run.now.image.shape.columns ≡ settings.now.columns }
@@ -125,7 +125,7 @@ fn fill_spectral_line(
     run: &Run,
     before: &[LongLines],
     k: usize,
-    components: &mut [[i32; 64]; MOST_COMPONENTS],
+    components: &mut [[i32; PIECE]; MOST_COMPONENTS],
 )
     requires run { IsRunOf settings.now.band run.now }
     requires columns { run.now.image.shape.columns ≡ settings.now.columns }
@@ -198,7 +198,7 @@ fn fill_components(
 }
 
 /// Writes the numbers of another line.
-pub(crate) fn copy_line(from: &[i32; 64], line: &mut [i32; 64])
+pub(crate) fn copy_line(from: &[i32; PIECE], line: &mut [i32; PIECE])
     ensures { line.new ≡ from.now }
 {
     line.copy_from_slice(from);

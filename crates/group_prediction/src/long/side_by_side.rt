@@ -27,7 +27,7 @@ use crate::long::weights::fill_weights;
 use band_lanes::four::rows::Rows as LaneRows;
 use lanes::turn_four::turn_four_back;
 use predict_core::band::Band;
-use predict_core::run::Run;
+use predict_core::run::{PIECE, Run};
 use sample_prediction::predictor::MOST_COMPONENTS;
 
 /// `follow_piece` with the constants of a band's predictor.
@@ -35,9 +35,9 @@ fn follow_band<const Q: usize>(
     band: &Band,
     run: &Run,
     rows: &[LaneRows; MOST_COMPONENTS],
-    own: &[[i32; 4]; 64],
+    own: &[[i32; 4]; PIECE],
     weights: &mut [[i32; 4]; MOST_COMPONENTS],
-    parts: &mut [[i32; 4]; 64],
+    parts: &mut [[i32; 4]; PIECE],
 )
     requires few { Q ≤ 9 }
     requires run { IsRunOf band.now.band run.now }

@@ -14,7 +14,7 @@ ghost use Rattle.predict_core.specs.RunChains.{AreStepsThere, IsFollowed};
 use crate::long::chain::follow_places;
 use band_lanes::four::rows::Rows;
 use band_lanes::four::step::LongStep;
-use predict_core::run::Run;
+use predict_core::run::{PIECE, Run};
 use predict_core::settings::Settings;
 use sample_prediction::exponent::{exponent_at, places_alike};
 use sample_prediction::predictor::MOST_COMPONENTS;
@@ -26,9 +26,9 @@ pub(crate) fn follow_piece<const Q: usize>(
     settings: &Settings,
     run: &Run,
     rows: &[Rows; MOST_COMPONENTS],
-    own: &[[i32; 4]; 64],
+    own: &[[i32; 4]; PIECE],
     weights: &mut [[i32; 4]; MOST_COMPONENTS],
-    parts: &mut [[i32; 4]; 64],
+    parts: &mut [[i32; 4]; PIECE],
 )
     requires few { Q ≤ 9 }
     requires run { IsRunOf settings.now.band run.now }
@@ -67,15 +67,15 @@ pub(crate) fn follow_piece<const Q: usize>(
 fn follow_by<const Q: usize>(
     weights: &mut [[i32; 4]; MOST_COMPONENTS],
     rows: &[Rows; MOST_COMPONENTS],
-    own: &[[i32; 4]; 64],
-    parts: &mut [[i32; 4]; 64],
+    own: &[[i32; 4]; PIECE],
+    parts: &mut [[i32; 4]; PIECE],
     step: LongStep,
     first: usize,
     last: usize,
 )
     requires few { Q ≤ 9 }
     requires order { first ≤ last }
-    requires last { last ≤ 64 }
+    requires last { last ≤ PIECE }
     requires small { (i b : ℕ) → first ≤ i → i < last → b < 4 → AllWithin (2 ^ (step.bits + 2)) (row_components (2 * Q) b rows.now i) }
     requires weights_in { (b : ℕ) → b < 4 → AllWithin (2 ^ (step.omega + 2)) (column_of (2 * Q) b weights.old) }
     ensures weights_in { (b : ℕ) → b < 4 → AllWithin (2 ^ (step.omega + 2)) (column_of (2 * Q) b weights.new) }

@@ -9,7 +9,7 @@ ghost use Rattle.predict_core.specs.ImageRuns.{IsRunOf};
 ghost use Rattle.predict_core.specs.Rooms.{components_at, quads_of, lower_difference, lower_differences};
 
 use crate::differences::fills::{fill_four, fill_two};
-use crate::differences::lines::{Lines, fill_run_lines, is_column};
+use crate::differences::lines::{LINE, Lines, fill_run_lines, is_column};
 use crate::differences::room::Quad;
 use crate::run::Run;
 use crate::settings::Settings;
@@ -95,8 +95,8 @@ pub(crate) fn fill_below(settings: &Settings, run: &Run, below: usize, lines: &m
     requires run { IsRunOf settings.now.band run.now }
     requires columns { run.now.image.shape.columns ≡ settings.now.columns }
     requires below_in { 1 ≤ below }
-    requires current { lines.old.current ≡ replicate 66 0 }
-    requires above { lines.old.above ≡ replicate 66 0 }
+    requires current { lines.old.current ≡ replicate LINE 0 }
+    requires above { lines.old.above ≡ replicate LINE 0 }
     ensures { (i : ℕ) → i < run.now.count → 0 < run.now.y + (run.now.x + i) → line_difference (settings.now.predictor.column || run.now.y == 0) lines.new.current lines.new.above i
         ≡ lower_difference settings.now.predictor run.now.image settings.now.band run.now.y (run.now.x + i) below }
 {

@@ -7,14 +7,17 @@ ghost use Rattle.std.specs.Prelude.{◌≡◌, ◌+◌, ◌-◌, ◌*◌, ◌<�
 ghost use Rattle.sample_prediction.specs.Lines.{bordered, bordered_above, line_sum, AreLines, AreBandLines};
 ghost use Rattle.predict_core.specs.ImageRuns.{IsRunOf};
 
-use crate::run::Run;
+use crate::run::{PIECE, Run};
 use sample_prediction::predictor::Predictor;
+
+/// The length of a line: a piece, with one place more on each side.
+pub const LINE: usize = PIECE + 2;
 
 /// The offsets of a run in its own row, `current`, and in the row `above` it, each with one place more on each side.
 #[derive(Clone, Copy)]
 pub struct Lines {
-    pub current: [u16; 66],
-    pub above: [u16; 66],
+    pub current: [u16; LINE],
+    pub above: [u16; LINE],
 }
 
 impl Lines {
@@ -24,8 +27,8 @@ impl Lines {
         ensures above { result.above ≡ replicate 66 0 }
     {
         Lines {
-            current: [0; 66],
-            above: [0; 66],
+            current: [0; LINE],
+            above: [0; LINE],
         }
     }
 }
@@ -45,9 +48,9 @@ pub(crate) fn fill_line_above(
     above: &[u16],
     x: usize,
     count: usize,
-    upper: &mut [u16; 66],
+    upper: &mut [u16; LINE],
 )
-    requires few { count ≤ 64 }
+    requires few { count ≤ PIECE }
     requires inside { x + count ≤ length above.now }
     requires some { 1 ≤ length above.now }
     requires wide { column ≡ false → 2 ≤ length above.now }
@@ -67,7 +70,7 @@ pub(crate) fn fill_line_above(
 /// (CCSDS 123.0-B-1, "Local Sums").
 fn fill_lines(column: bool, run: &Run, row: &[u16], above: &[u16], lines: &mut Lines)
     requires some { 1 ≤ run.now.count }
-    requires few { run.now.count ≤ 64 }
+    requires few { run.now.count ≤ PIECE }
     requires inside { run.now.x + run.now.count ≤ length row.now }
     requires same { length above.now ≡ length row.now }
     requires wide { column ≡ false → 2 ≤ length row.now }
@@ -87,12 +90,12 @@ fn fill_lines(column: bool, run: &Run, row: &[u16], above: &[u16], lines: &mut L
 /// Writes `count` offsets of a row from column `x` on, and one more on each side.
 ///
 /// `before` and `after` are the substitutes where the row ends.
-fn fill_line(row: &[u16], x: usize, count: usize, before: u16, after: u16, line: &mut [u16; 66])
-    requires few { count ≤ 64 }
+fn fill_line(row: &[u16], x: usize, count: usize, before: u16, after: u16, line: &mut [u16; LINE])
+    requires few { count ≤ PIECE }
     requires inside { x + count ≤ length row.now }
     ensures { (k : ℕ) → k < count + 2 → slice_index line.new k ≡ slice_index (bordered before row.now after) (x + k) }
 {
-    if 1 <= x && x + 65 <= row.len() {
+    if 1 <= x && x + PIECE + 1 <= row.len() {
         copy_line(row, x, line);
     } else {
         copy_places(row, x, count, line);
@@ -105,25 +108,25 @@ fn fill_line(row: &[u16], x: usize, count: usize, before: u16, after: u16, line:
 ///
 /// A copy of this fixed length is a few vector moves instead of a call.
 #[inline(always)]
-fn copy_line(row: &[u16], x: usize, line: &mut [u16; 66])
+fn copy_line(row: &[u16], x: usize, line: &mut [u16; LINE])
     requires begun { 1 ≤ x }
-    requires inside { x + 65 ≤ length row.now }
-    ensures { (k : ℕ) → k < 66 → slice_index line.new k ≡ slice_index row.now (x + k - 1) }
+    requires inside { x + PIECE + 1 ≤ length row.now }
+    ensures { (k : ℕ) → k < LINE → slice_index line.new k ≡ slice_index row.now (x + k - 1) }
 {
-    line[..64].copy_from_slice(&row[x - 1..x + 63]);
-    line[64] = row[x + 63];
-    line[65] = row[x + 64];
+    line[..PIECE].copy_from_slice(&row[x - 1..x + PIECE - 1]);
+    line[PIECE] = row[x + PIECE - 1];
+    line[PIECE + 1] = row[x + PIECE];
 }
 
 /// Writes `count` offsets of a row from column `x` on, after the first element of a line.
-fn copy_places(row: &[u16], x: usize, count: usize, line: &mut [u16; 66])
-    requires few { count ≤ 64 }
+fn copy_places(row: &[u16], x: usize, count: usize, line: &mut [u16; LINE])
+    requires few { count ≤ PIECE }
     requires inside { x + count ≤ length row.now }
     ensures { (k : ℕ) → k < count → slice_index line.new (k + 1) ≡ slice_index row.now (x + k) }
 {
-    if count == 64 {
+    if count == PIECE {
         // A copy of this fixed length is a few vector moves instead of a call.
-        line[1..65].copy_from_slice(&row[x..x + 64]);
+        line[1..PIECE + 1].copy_from_slice(&row[x..x + PIECE]);
     } else {
         line[1..count + 1].copy_from_slice(&row[x..x + count]);
     }
@@ -153,8 +156,13 @@ pub fn is_column(column: bool, y: u32) -> bool
 
 /// Returns four times an average of the neighbours of place `i`.
 #[inline(always)]
-pub(crate) fn sum_of_lines(column: bool, current: &[u16; 66], upper: &[u16; 66], i: usize) -> u32
-    requires { i < 64 }
+pub(crate) fn sum_of_lines(
+    column: bool,
+    current: &[u16; LINE],
+    upper: &[u16; LINE],
+    i: usize,
+) -> u32
+    requires { i < PIECE }
     ensures value { result ≡ line_sum column current.now upper.now i }
     ensures bound { result ≤ 262140 }
 {
@@ -167,9 +175,9 @@ pub(crate) fn sum_of_lines(column: bool, current: &[u16; 66], upper: &[u16; 66],
 
 /// The same from the line above alone, as if the offset to the west were 0.
 #[inline(always)]
-pub(crate) fn sum_above(column: bool, above: &[u16; 66], i: usize) -> u32
-    requires { i < 64 }
-    ensures value { result ≡ line_sum column (replicate 66 0) above.now i }
+pub(crate) fn sum_above(column: bool, above: &[u16; LINE], i: usize) -> u32
+    requires { i < PIECE }
+    ensures value { result ≡ line_sum column (replicate LINE 0) above.now i }
     ensures bound { result ≤ 262140 }
 {
     if column {
@@ -180,8 +188,8 @@ pub(crate) fn sum_above(column: bool, above: &[u16; 66], i: usize) -> u32
 }
 
 /// Writes zeros into a line.
-pub fn clear_line(line: &mut [i16; 64])
+pub fn clear_line(line: &mut [i16; PIECE])
     ensures { (i : ℕ) → i < 64 → slice_index_or line.new i (pos 0) ≡ pos 0 }
 {
-    *line = [0; 64];
+    *line = [0; PIECE];
 }

@@ -14,8 +14,8 @@ use crate::differences::below::{fill_below, fill_spectral};
 use crate::differences::fills::{
     fill_directions, fill_four, fill_open_directions, fill_open_sums, fill_own,
 };
-use crate::differences::lines::{Lines, fill_line_above, fill_run_lines, is_column};
-use crate::run::Run;
+use crate::differences::lines::{LINE, Lines, fill_line_above, fill_run_lines, is_column};
+use crate::run::{PIECE, Run};
 use crate::settings::Settings;
 use cube_core::cube::Cube;
 use sample_prediction::rows::Rows;
@@ -23,7 +23,7 @@ use sample_prediction::rows::Rows;
 /// Four components at each place of a run.
 #[derive(Clone, Copy)]
 pub(crate) struct Quad {
-    pub places: [[i32; 4]; 64],
+    pub places: [[i32; 4]; PIECE],
 }
 
 /// Writes the local sums of offsets, the central differences and the components of a run.
@@ -33,8 +33,8 @@ pub(crate) struct Quad {
 pub(crate) fn fill_run<const Q: usize>(
     settings: &Settings,
     run: &Run,
-    sums: &mut [i32; 64],
-    own: &mut [i32; 64],
+    sums: &mut [i32; PIECE],
+    own: &mut [i32; PIECE],
     quads: &mut [Quad; Q],
 )
     requires run { IsRunOf settings.now.band run.now }
@@ -66,21 +66,21 @@ pub(crate) fn fill_open_part<const Q: usize>(
     y: u32,
     x: u32,
     count: usize,
-    sums: &mut [i32; 64],
+    sums: &mut [i32; PIECE],
     quads: &mut [Quad; Q],
 )
     requires place { IsPlace cube.now.shape settings.now.band y x }
     requires columns { cube.now.shape.columns ≡ settings.now.columns }
     requires later { 0 < y }
     requires some { 1 ≤ count }
-    requires few { count ≤ 64 }
+    requires few { count ≤ PIECE }
     requires inside { x + count ≤ cube.now.shape.columns }
     requires enough { quads_of settings.now.count ≤ Q }
     ensures { (i : ℕ) → i < count → IsOpenPart settings.now.predictor cube.now settings.now.band y (x + i) settings.now.count
         (slice_index_or sums.new i (pos 0)) (components_at (quads_of settings.now.count) quads.new i) }
 {
     let column = settings.predictor.column;
-    let mut line = [0u16; 66];
+    let mut line = [0u16; LINE];
     let rows = Rows::of(cube, y);
     let run = Run::new(&rows, x, count);
     let above = run.row_above(settings.band);
@@ -101,7 +101,7 @@ pub(crate) fn fill_open_part<const Q: usize>(
 }
 
 /// Replaces the north-western difference of the first place by the northern one.
-fn put_north_first(out: &mut [[i32; 4]; 64])
+fn put_north_first(out: &mut [[i32; 4]; PIECE])
     ensures first { (north west north_west below : ℤ) → slice_index_or out.old 0 [] ≡ north ∷ west ∷ north_west ∷ below ∷ []
         → slice_index_or out.new 0 [] ≡ north ∷ west ∷ north ∷ below ∷ [] }
     ensures others { (k : ℕ) → 0 < k → slice_index_or out.new k [] ≡ slice_index_or out.old k [] }
@@ -116,16 +116,16 @@ fn fill_first(
     settings: &Settings,
     run: &Run,
     lines: &Lines,
-    sums: &mut [i32; 64],
-    own: &mut [i32; 64],
+    sums: &mut [i32; PIECE],
+    own: &mut [i32; PIECE],
     quad: &mut Quad,
 )
     requires run { IsRunOf settings.now.band run.now }
     requires columns { run.now.image.shape.columns ≡ settings.now.columns }
     requires lines { AreBandLines settings.now.predictor run.now.image settings.now.band run.now.y run.now.x run.now.count lines.now.current lines.now.above }
-    ensures sums { (i : ℕ) → i < 64
+    ensures sums { (i : ℕ) → i < PIECE
         → slice_index_or sums.new i (pos 0) ≡ pos (line_sum (settings.now.predictor.column || run.now.y == 0) lines.now.current lines.now.above i) }
-    ensures own { (i : ℕ) → i < 64 → slice_index_or own.new i (pos 0) ≡ line_difference (settings.now.predictor.column || run.now.y == 0) lines.now.current
+    ensures own { (i : ℕ) → i < PIECE → slice_index_or own.new i (pos 0) ≡ line_difference (settings.now.predictor.column || run.now.y == 0) lines.now.current
         lines.now.above i }
     ensures quad { (i : ℕ) → i < run.now.count → 0 < run.now.y + (run.now.x + i) → slice_index_or quad.new.places i [] ≡ directional_differences settings.now.predictor run.now.image
         settings.now.band run.now.y (run.now.x + i) ++ lower_differences settings.now.predictor run.now.image settings.now.band run.now.y (run.now.x + i) 1 1 }
@@ -152,7 +152,7 @@ fn fill_first(
 }
 
 /// Replaces the other two directional differences of the first place by the northern one.
-fn repeat_north(out: &mut [[i32; 4]; 64])
+fn repeat_north(out: &mut [[i32; 4]; PIECE])
     ensures first { (north west north_west below : ℤ) → slice_index_or out.old 0 [] ≡ north ∷ west ∷ north_west ∷ below ∷ []
         → slice_index_or out.new 0 [] ≡ north ∷ north ∷ north ∷ below ∷ [] }
     ensures others { (k : ℕ) → 0 < k → slice_index_or out.new k [] ≡ slice_index_or out.old k [] }

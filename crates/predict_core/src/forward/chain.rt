@@ -18,7 +18,7 @@ ghost use Rattle.sample_prediction.specs.Chain.{scaled_by_difference};
 ghost use Rattle.predict_core.specs.RunChains.{CanFollow, AreStepsThere, IsFollowed};
 
 use crate::differences::room::Quad;
-use crate::run::Run;
+use crate::run::{PIECE, Run};
 use crate::settings::Settings;
 use sample_prediction::prediction::predicted_difference;
 use sample_prediction::predictor::MOST_COMPONENTS;
@@ -81,7 +81,7 @@ pub(crate) fn sign_mask_of_error(own: i32, predicted: i32) -> i32
 #[inline(always)]
 pub(crate) fn differences_at<const Q: usize>(quads: &[Quad; Q], i: usize) -> [i32; MOST_COMPONENTS]
     requires few { Q ≤ 5 }
-    requires place { i < 64 }
+    requires place { i < PIECE }
     ensures { result ≡ take 18 (components_at Q quads.now i ++ replicate 18 (pos 0)) }
 {
     let first = quad_at::<Q>(quads, 0, i);
@@ -99,7 +99,7 @@ pub(crate) fn differences_at<const Q: usize>(quads: &[Quad; Q], i: usize) -> [i3
 /// Returns the components of place `i` in quad `k`, which are zeros after the first `Q` quads.
 #[inline(always)]
 fn quad_at<const Q: usize>(quads: &[Quad; Q], k: usize, i: usize) -> [i32; 4]
-    requires place { i < 64 }
+    requires place { i < PIECE }
     ensures value { result ≡ quad_or_zeros Q quads.now k i }
     ensures long { length result ≡ 4 }
 {
@@ -174,8 +174,8 @@ fn follow_at<const N: usize, const WRAPS: bool>(
 #[derive(Clone, Copy)]
 pub(crate) struct KnownRun<'a, const Q: usize> {
     pub settings: &'a Settings,
-    pub sums: &'a [i32; 64],
-    pub own: &'a [i32; 64],
+    pub sums: &'a [i32; PIECE],
+    pub own: &'a [i32; PIECE],
     pub quads: &'a [Quad; Q],
 }
 
@@ -186,7 +186,7 @@ fn follow_place<const Q: usize, const N: usize, const WRAPS: bool>(
     i: usize,
     steps: Steps,
     known: KnownRun<Q>,
-    parts: &mut [i32; 64],
+    parts: &mut [i32; PIECE],
     weights: &mut [i32; MOST_COMPONENTS],
 )
     requires known { CanFollow Q N WRAPS known.settings.now run.now.image run.now.y run.now.x (i + 1) known.sums.now known.own.now known.quads.now }
@@ -217,8 +217,8 @@ fn follow_place<const Q: usize, const N: usize, const WRAPS: bool>(
 #[derive(Drop)]
 pub(crate) struct RunState {
     pub weights: [i32; MOST_COMPONENTS],
-    pub parts: [i32; 64],
-    pub residuals: [u16; 64],
+    pub parts: [i32; PIECE],
+    pub residuals: [u16; PIECE],
 }
 
 impl RunState {
@@ -228,8 +228,8 @@ impl RunState {
     {
         RunState {
             weights,
-            parts: [0; 64],
-            residuals: [0; 64],
+            parts: [0; PIECE],
+            residuals: [0; PIECE],
         }
     }
 }

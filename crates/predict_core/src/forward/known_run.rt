@@ -13,7 +13,7 @@ use crate::differences::room::{Quad, fill_run};
 use crate::forward::chain::{KnownRun, RunState};
 use crate::forward::pieces::follow_run;
 use crate::mapping::map_run;
-use crate::run::Run;
+use crate::run::{PIECE, Run};
 use crate::settings::Settings;
 use sample_prediction::predictor::MOST_COMPONENTS;
 
@@ -71,10 +71,10 @@ fn predict_by<const Q: usize, const N: usize, const WRAPS: bool>(
     ensures { HasPredicted settings.now run.now.image run.now.y run.now.x run.now.count state.old.weights state.new.weights state.new.residuals }
 {
     let none = Quad {
-        places: [[0; 4]; 64],
+        places: [[0; 4]; PIECE],
     };
-    let mut sums = [0; 64];
-    let mut own = [0; 64];
+    let mut sums = [0; PIECE];
+    let mut own = [0; PIECE];
     let mut quads = [none; Q];
     fill_run::<Q>(settings, run, &mut sums, &mut own, &mut quads);
     let known = KnownRun {
