@@ -17,7 +17,9 @@ use Rattle.sample_prediction.specs.Differences.{difference_vector}
 use Rattle.sample_prediction.proofs.Padding.{vector_length}
 use Rattle.predict_core.specs.declared.settings.Settings.{Settings}
 use Rattle.group_prediction.specs.declared.band_lines.BandLines.{BandLines}
-use Rattle.predict_core.specs.Following.{PredictorState, IsPieceNext}
+use Rattle.predict_core.specs.Following.{PredictorState}
+use Rattle.predict_core.specs.ImageRuns.{ImageRun, IsFirstLater, IsRunOf}
+use Rattle.group_prediction.specs.GroupPieces.{IsRunNext}
 use Rattle.group_prediction.specs.GroupLanes.{IsLane}
 use Rattle.predict_core.specs.BandLanes.{FitsNarrow}
 use Rattle.group_prediction.specs.GroupLines.{AreBandsLines}
@@ -37,14 +39,14 @@ all_at P xs h i x e = subst P (get_or_from_slice_get xs i x x e) (all_get P xs h
 
 -- ---- the vector of a lane
 
-pub lane_filled : (q b : ℕ) (s : Settings) (v : PredictorState) (c : Image) (y x count : ℕ) (own : List (List ℤ)) (pairs : List Pairs) (l : BandLines)
-    → b < 8 → IsCube c → q ≤ 9 → AreConstants s v c → IsPieceNext v c y x count → FitsNarrow v.predictor c.kind.bits
-    → component_count v.predictor v.band ≤ 2 * q → 9 ≤ length pairs → AreBandsLines (2 * q) v.predictor v.band c y x count l
+pub lane_filled : (q b : ℕ) (s : Settings) (v : PredictorState) (r : ImageRun) (own : List (List ℤ)) (pairs : List Pairs) (l : BandLines)
+    → b < 8 → IsCube r.image → q ≤ 9 → AreConstants s v r.image → IsRunNext v r → FitsNarrow v.predictor r.image.kind.bits
+    → component_count v.predictor v.band ≤ 2 * q → 9 ≤ length pairs → AreBandsLines (2 * q) v.predictor v.band r l
     → ((i : ℕ) → i < 64 → lane (get_or own i []) b ≡ get_or l.own i (pos 0))
     → ((j i : ℕ) → j < q → i < 64 → lane (row_at (get_or pairs j no_pairs) i) (2 * b) ≡ place l.components (2 * j) i)
     → ((j i : ℕ) → j < q → i < 64 → lane (row_at (get_or pairs j no_pairs) i) (2 * b + 1) ≡ place l.components (2 * j + 1) i)
-    → IsLane q b s c y x count own pairs
-lane_filled q b s v c y x count own pairs l fits cube few is next narrow enough long lines own_is even odd = record {
+    → IsLane q b s r.image r.y r.x r.count own pairs
+lane_filled q b s v r own pairs l fits cube few is next narrow enough long lines own_is even odd = record {
   cube = cube;
   place = rw is.band next.place;
   columns = sym is.columns;
@@ -57,8 +59,8 @@ lane_filled q b s v c y x count own pairs l fits cube few is next narrow enough 
   bits = narrow.bits_in;
   central = λ i m n. rw (is.predictor, is.band) (own_is i (within i m) ∙ lines.own i m n);
   vector = λ i m n. rw (is.predictor, is.band, counted)
-      (let us = difference_vector v.predictor c v.band y (x + i) in let rest = 2 * q - component_count v.predictor v.band in
-      let u = vector_length v.predictor c v.band y (x + i) in
+      (let us = difference_vector v.predictor r.image v.band r.y (r.x + i) in let rest = 2 * q - component_count v.predictor v.band in
+      let u = vector_length v.predictor r.image v.band r.y (r.x + i) in
       let long_vector : length (us ++ replicate rest (pos 0)) ≡ 2 * q =
       (let e = length-append us (replicate rest (pos 0)) in let f = length-replicate rest (pos 0) in omega (arith, e, f, u, enough)) in
       components_are q b i pairs (us ++ replicate rest (pos 0)) (omega (arith, few, long)) (omega (arith, long_vector))
@@ -70,7 +72,7 @@ lane_filled q b s v c y x count own pairs l fits cube few is next narrow enough 
     counted : s.count ≡ component_count v.predictor v.band
     counted = s.count_is ∙ ap₂ component_count is.predictor is.band
 
-    within : (i : ℕ) → i < count → i < 64
+    within : (i : ℕ) → i < r.count → i < 64
     within i m = let f = next.few in omega (arith, m, f)
 
 -- ---- components are small
@@ -108,16 +110,27 @@ pub number_at : (b i : ℕ) (rows : List (List ℤ)) → get_or (numbers_of b ro
 number_at b i rows = get_or-map (λ row. lane row b) rows i []
 
 -- what is ready of all bands is ready of one
-pub ready_at : (q : ℕ) (bands : List PredictorState) (c : Image) (y x n : ℕ) (r : AreReady q bands c y x n) (k : ℕ) (b : PredictorState)
-    → slice_get bands k ≡ Some b → (b.predictor ≡ r.predictor) × IsPieceNext b c y x n
-ready_at q bands c y x n r k b e = all_at (λ b. (b.predictor ≡ r.predictor) × IsPieceNext b c y x n) bands r.each k b e
+pub ready_at : (q : ℕ) (bands : List PredictorState) (run : ImageRun) (r : AreReady q bands run) (k : ℕ) (b : PredictorState)
+    → slice_get bands k ≡ Some b → (b.predictor ≡ r.predictor) × IsRunNext b run
+ready_at q bands run r k b e = all_at (λ b. (b.predictor ≡ r.predictor) × IsRunNext b run) bands r.each k b e
 
-pub ready_more : (q more : ℕ) (bands : List PredictorState) (c : Image) (y x n : ℕ) → q ≤ more → AreReady q bands c y x n → AreReady more bands c y x n
-ready_more q more bands c y x n h r = record {
+-- the next places of a band are a run of it
+pub run_of : (b : PredictorState) (r : ImageRun) → IsRunNext b r → 1 ≤ r.count → IsFirstLater r.y r.x r.first → IsRunOf b.band r
+run_of b r next some first = record {
+  place = next.place;
+  some = some;
+  few = next.few;
+  inside = next.inside;
+  first = first;
+}
+
+pub ready_more : (q more : ℕ) (bands : List PredictorState) (run : ImageRun) → q ≤ more → AreReady q bands run → AreReady more bands run
+ready_more q more bands run h r = record {
   predictor = r.predictor;
   each = r.each;
   narrow = r.narrow;
   wide = r.wide;
   some = r.some;
+  first = r.first;
   enough = λ z. let e = r.enough z in omega (arith, e, h);
 }

@@ -1,5 +1,5 @@
 -- What a band has after a piece that it went in a lane.
-use Rattle.std.proofs.Common.{◌≡◌, ℕ, ◌+◌, ◌*◌, ◌^◌, ◌<◌, ◌≤◌, ℤ, List, take, get_or, sym, ap, ap₂, ◌∙◌, subst, arith, zero, suc, [], ◌∷◌, set, refl}
+use Rattle.std.proofs.Common.{◌≡◌, ℕ, ◌+◌, ◌*◌, ◌^◌, ◌<◌, ◌≤◌, ℤ, List, take, get_or, sym, ap, ap₂, ◌∙◌, subst, arith}
 use Rattle.std.proofs.lemmas.List.{take-take}
 use Rattle.header_bits.specs.declared.params.Params.{Params}
 use Rattle.cube_core.specs.Image.{Image}
@@ -9,14 +9,9 @@ use Rattle.sample_prediction.specs.Bounds.{AllWithin}
 use Rattle.sample_prediction.specs.Chain.{AreWeightsAt}
 use Rattle.sample_prediction.specs.Prediction.{weight_vector}
 use Rattle.sample_prediction.specs.Residual.{run_residuals}
-use Rattle.predict_core.specs.RunChains.{IsFirstLater, IsFollowed, HasPredicted}
+use Rattle.predict_core.specs.ImageRuns.{IsFirstLater}
+use Rattle.predict_core.specs.RunChains.{IsFollowed, HasPredicted}
 use Rattle.predict_core.proofs.RunChains.{at_first}
-
--- a first entry may be written before a list is cut or after
-pub set_taken : (n : ℕ) (xs : List ℕ) (r : ℕ) → take n (set xs 0 r) ≡ set (take n xs) 0 r
-set_taken zero xs r = refl
-set_taken (suc n) [] r = refl
-set_taken (suc n) (x ∷ xs) r = refl
 
 pub group_predicted : (s : Settings) (c : Image) (y x first n m : ℕ) (old begun ws new parts : List ℤ) (rs : List ℕ) → IsFirstLater y x first
     → take s.count begun ≡ take s.count old → IsFollowed s c y x first begun n ws parts → take m new ≡ ws → s.count ≤ m

@@ -11,7 +11,9 @@ use Rattle.band_lanes.specs.Fours.{column_of}
 use Rattle.predict_core.specs.declared.settings.Settings.{Settings}
 use Rattle.band_lanes.specs.declared.four.rows.Rows.{Rows}
 use Rattle.group_prediction.specs.declared.long.lines.LongLines.{LongLines}
-use Rattle.predict_core.specs.Following.{PredictorState, IsPieceNext}
+use Rattle.predict_core.specs.Following.{PredictorState}
+use Rattle.predict_core.specs.ImageRuns.{ImageRun}
+use Rattle.group_prediction.specs.GroupPieces.{IsRunNext}
 use Rattle.group_prediction.specs.GroupLanes.{IsLongLane, HasLongWeights}
 use Rattle.group_prediction.specs.GroupLines.{AreLongLines}
 use Rattle.group_prediction.specs.GroupRooms.{AreConstants}
@@ -85,13 +87,13 @@ long_weights_held q b s n ws rows is few count within e =
 
 -- ---- the vector of a lane
 
-pub long_lane_filled : (q b : ℕ) (s : Settings) (v : PredictorState) (c : Image) (y x count : ℕ) (own : List (List ℤ)) (rows : List Rows) (l : LongLines)
-    → IsCube c → q ≤ 9 → AreConstants s v c → IsPieceNext v c y x count → ((z : ℕ) → NeverWraps v.predictor c.kind.bits (component_count v.predictor z))
-    → component_count v.predictor v.band ≤ 2 * q → length rows ≡ 18 → AreLongLines (2 * q) v.predictor v.band c y x count l
+pub long_lane_filled : (q b : ℕ) (s : Settings) (v : PredictorState) (r : ImageRun) (own : List (List ℤ)) (rows : List Rows) (l : LongLines)
+    → IsCube r.image → q ≤ 9 → AreConstants s v r.image → IsRunNext v r → ((z : ℕ) → NeverWraps v.predictor r.image.kind.bits (component_count v.predictor z))
+    → component_count v.predictor v.band ≤ 2 * q → length rows ≡ 18 → AreLongLines (2 * q) v.predictor v.band r l
     → ((i : ℕ) → i < 64 → place own i b ≡ get_or l.own i (pos 0))
     → ((k i : ℕ) → k < 2 * q → i < 64 → place (get_or rows k no_rows).places i b ≡ place l.components k i)
-    → IsLongLane q b s c y x count own rows
-long_lane_filled q b s v c y x count own rows l cube few is next room enough long lines own_is rows_are = record {
+    → IsLongLane q b s r.image r.y r.x r.count own rows
+long_lane_filled q b s v r own rows l cube few is next room enough long lines own_is rows_are = record {
   cube = cube;
   place = rw is.band next.place;
   columns = sym is.columns;
@@ -102,8 +104,8 @@ long_lane_filled q b s v c y x count own rows l cube few is next room enough lon
   register = rw (is.predictor, counted) (room v.band);
   central = λ i m n. rw (is.predictor, is.band) (own_is i (within i m) ∙ lines.own i m n);
   vector = λ i m n. rw (is.predictor, is.band, counted)
-      (let us = difference_vector v.predictor c v.band y (x + i) in let rest = 2 * q - component_count v.predictor v.band in
-      let u = vector_length v.predictor c v.band y (x + i) in
+      (let us = difference_vector v.predictor r.image v.band r.y (r.x + i) in let rest = 2 * q - component_count v.predictor v.band in
+      let u = vector_length v.predictor r.image v.band r.y (r.x + i) in
       let long_vector : length (us ++ replicate rest (pos 0)) ≡ 2 * q =
       (let e = length-append us (replicate rest (pos 0)) in let f = length-replicate rest (pos 0) in omega (arith, e, f, u, enough)) in
       components_are (2 * q) b i rows (us ++ replicate rest (pos 0)) (omega (arith, few, long)) (omega (arith, long_vector))
@@ -114,27 +116,27 @@ long_lane_filled q b s v c y x count own rows l cube few is next room enough lon
     counted : s.count ≡ component_count v.predictor v.band
     counted = s.count_is ∙ ap₂ component_count is.predictor is.band
 
-    within : (i : ℕ) → i < count → i < 64
+    within : (i : ℕ) → i < r.count → i < 64
     within i m = let f = next.few in omega (arith, m, f)
 
 -- its components are small
-pub filled_components_in : (q b : ℕ) (v : PredictorState) (c : Image) (y x count i : ℕ) (rows : List Rows) (l : LongLines)
-    → IsCube c → q ≤ 9 → IsPieceNext v c y x count → (v.predictor.column ≡ false → 2 ≤ c.shape.columns) → component_count v.predictor v.band ≤ 2 * q
-    → 18 ≤ length rows → AreLongLines (2 * q) v.predictor v.band c y x count l → i < count → 0 < y + (x + i)
+pub filled_components_in : (q b : ℕ) (v : PredictorState) (r : ImageRun) (i : ℕ) (rows : List Rows) (l : LongLines)
+    → IsCube r.image → q ≤ 9 → IsRunNext v r → (v.predictor.column ≡ false → 2 ≤ r.image.shape.columns) → component_count v.predictor v.band ≤ 2 * q
+    → 18 ≤ length rows → AreLongLines (2 * q) v.predictor v.band r l → i < r.count → 0 < r.y + (r.x + i)
     → ((k : ℕ) → k < 2 * q → place (get_or rows k no_rows).places i b ≡ place l.components k i)
-    → AllWithin (2 ^ (c.kind.bits + 2)) (row_components (2 * q) b rows i)
-filled_components_in q b v c y x count i rows l cube few next wide enough long lines inside later rows_are =
-    let us = difference_vector v.predictor c v.band y (x + i) in let rest = 2 * q - component_count v.predictor v.band in
-    let u = vector_length v.predictor c v.band y (x + i) in
+    → AllWithin (2 ^ (r.image.kind.bits + 2)) (row_components (2 * q) b rows i)
+filled_components_in q b v r i rows l cube few next wide enough long lines inside later rows_are =
+    let us = difference_vector v.predictor r.image v.band r.y (r.x + i) in let rest = 2 * q - component_count v.predictor v.band in
+    let u = vector_length v.predictor r.image v.band r.y (r.x + i) in
     let long_vector : length (us ++ replicate rest (pos 0)) ≡ 2 * q =
     (let e = length-append us (replicate rest (pos 0)) in let f = length-replicate rest (pos 0) in omega (arith, e, f, u, enough)) in
     let vector : row_components (2 * q) b rows i ≡ us ++ replicate rest (pos 0) =
     components_are (2 * q) b i rows (us ++ replicate rest (pos 0)) (omega (arith, few, long)) (omega (arith, long_vector))
     (λ k o. rows_are k o ∙ lines.components i k inside later o ∙ sym (padded_at us rest k))
     ∙ take_all (2 * q) (us ++ replicate rest (pos 0)) (omega (arith, long_vector)) in
-    let four : 4 * 2 ^ c.kind.bits ≡ 2 ^ (c.kind.bits + 2) = (let p : 2 ^ (c.kind.bits + 2) ≡ 2 ^ c.kind.bits * 2 ^ 2 = pow-add 2 c.kind.bits 2 in omega (arith, p)) in
+    let four : 4 * 2 ^ r.image.kind.bits ≡ 2 ^ (r.image.kind.bits + 2) = (let p : 2 ^ (r.image.kind.bits + 2) ≡ 2 ^ r.image.kind.bits * 2 ^ 2 = pow-add 2 r.image.kind.bits 2 in omega (arith, p)) in
     subst (λ n. AllWithin n (row_components (2 * q) b rows i)) four
-    (subst (AllWithin (4 * 2 ^ c.kind.bits)) (sym vector) (padded_within v.predictor c cube y (x + i) later wide v.band
+    (subst (AllWithin (4 * 2 ^ r.image.kind.bits)) (sym vector) (padded_within v.predictor r.image cube r.y (r.x + i) later wide v.band
     (record { band = next.place.band; row = next.place.row; column = (let h = next.inside in omega (arith, inside, h)) }) rest))
 
 -- ---- one place
@@ -200,17 +202,18 @@ long_lane_first q b s c y x count k own rows h l = record {
 }
 
 -- what is ready of all bands is ready of one
-pub long_ready_at : (q : ℕ) (bands : List PredictorState) (c : Image) (y x n : ℕ) (r : AreLongReady q bands c y x n) (k : ℕ) (b : PredictorState)
-    → slice_get bands k ≡ Some b → (b.predictor ≡ r.predictor) × IsPieceNext b c y x n
-long_ready_at q bands c y x n r k b e = all_at (λ b. (b.predictor ≡ r.predictor) × IsPieceNext b c y x n) bands r.each k b e
+pub long_ready_at : (q : ℕ) (bands : List PredictorState) (run : ImageRun) (r : AreLongReady q bands run) (k : ℕ) (b : PredictorState)
+    → slice_get bands k ≡ Some b → (b.predictor ≡ r.predictor) × IsRunNext b run
+long_ready_at q bands run r k b e = all_at (λ b. (b.predictor ≡ r.predictor) × IsRunNext b run) bands r.each k b e
 
-pub long_ready_more : (q more : ℕ) (bands : List PredictorState) (c : Image) (y x n : ℕ) → q ≤ more → AreLongReady q bands c y x n → AreLongReady more bands c y x n
-long_ready_more q more bands c y x n h r = record {
+pub long_ready_more : (q more : ℕ) (bands : List PredictorState) (run : ImageRun) → q ≤ more → AreLongReady q bands run → AreLongReady more bands run
+long_ready_more q more bands run h r = record {
   predictor = r.predictor;
   each = r.each;
   register = r.register;
   wide = r.wide;
   some = r.some;
+  first = r.first;
   enough = λ z. let e = r.enough z in omega (arith, e, h);
 }
 
@@ -226,22 +229,24 @@ module _ {X : Type 0} (P : X → Type 0) where
   all_rest (suc n) [] h = tt
   all_rest (suc n) (x ∷ xs) h = all_rest n xs h.1
 
-pub long_ready_first : (q m : ℕ) (bands : List PredictorState) (c : Image) (y x n : ℕ) → AreLongReady q bands c y x n → AreLongReady q (take m bands) c y x n
-long_ready_first q m bands c y x n r = record {
+pub long_ready_first : (q m : ℕ) (bands : List PredictorState) (run : ImageRun) → AreLongReady q bands run → AreLongReady q (take m bands) run
+long_ready_first q m bands run r = record {
   predictor = r.predictor;
-  each = all_first (λ b. (b.predictor ≡ r.predictor) × IsPieceNext b c y x n) m bands r.each;
+  each = all_first (λ b. (b.predictor ≡ r.predictor) × IsRunNext b run) m bands r.each;
   register = r.register;
   wide = r.wide;
   some = r.some;
+  first = r.first;
   enough = r.enough;
 }
 
-pub long_ready_rest : (q m : ℕ) (bands : List PredictorState) (c : Image) (y x n : ℕ) → AreLongReady q bands c y x n → AreLongReady q (drop m bands) c y x n
-long_ready_rest q m bands c y x n r = record {
+pub long_ready_rest : (q m : ℕ) (bands : List PredictorState) (run : ImageRun) → AreLongReady q bands run → AreLongReady q (drop m bands) run
+long_ready_rest q m bands run r = record {
   predictor = r.predictor;
-  each = all_rest (λ b. (b.predictor ≡ r.predictor) × IsPieceNext b c y x n) m bands r.each;
+  each = all_rest (λ b. (b.predictor ≡ r.predictor) × IsRunNext b run) m bands r.each;
   register = r.register;
   wide = r.wide;
   some = r.some;
+  first = r.first;
   enough = r.enough;
 }

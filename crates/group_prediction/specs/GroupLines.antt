@@ -1,8 +1,8 @@
--- What the samples tell of a piece of one band, in lines of its places.
+-- What the samples tell of a run of one band, in lines of its places.
 use Rattle.std.specs.Prelude.{ℕ, ◌≡◌, ◌+◌, ◌*◌, ◌^◌, ◌<◌, ℤ, pos, ◌+ℤ◌, ◌-ℤ◌, ◌*ℤ◌, ◌≤ℤ◌, unsigned_abs, List, [], length, slice_index_or, slice_get, Some, if◌then◌else◌}
 use Rattle.predict_core.specs.Following.{PredictorState}
 use Rattle.cube_core.specs.Kind.{smin}
-use Rattle.cube_core.specs.Image.{Image}
+use Rattle.predict_core.specs.ImageRuns.{ImageRun}
 use Rattle.lanes.specs.Lanes.{place}
 use Rattle.group_prediction.specs.declared.band_lines.BandLines.{BandLines}
 use Rattle.group_prediction.specs.declared.long.lines.LongLines.{LongLines}
@@ -19,40 +19,41 @@ IsToldDifference offset sum difference =
 abbrev pub spectral_from : Predictor → ℕ
 spectral_from p = if p.reduced then 0 else 3
 
--- a line holds d of `count` places of band z from row y, column x on, except at t = 0
-abbrev pub HoldsCentral : Predictor → Image → ℕ → ℕ → ℕ → ℕ → List ℤ → Type 0
-HoldsCentral p c z y x count own = (i : ℕ) → i < count → 0 < y + (x + i) → slice_index_or own i (pos 0) ≡ central_difference p c z y (x + i)
+-- a line holds d of the places of a run of band z, except at t = 0
+abbrev pub HoldsCentral : Predictor → ℕ → ImageRun → List ℤ → Type 0
+HoldsCentral p z r own =
+    (i : ℕ) → i < r.count → 0 < r.y + (r.x + i) → slice_index_or own i (pos 0) ≡ central_difference p r.image z r.y (r.x + i)
 
 -- no lines
 abbrev pub no_lines : BandLines
 no_lines = record { band = 0; sums = []; own = []; components = [] }
 
 -- lines of several bands hold the central differences of each
-abbrev pub HoldCentrals : Predictor → Image → ℕ → ℕ → ℕ → List BandLines → Type 0
-HoldCentrals p c y x count ls =
-    (j : ℕ) → j < length ls → HoldsCentral p c (slice_index_or ls j no_lines).band y x count (slice_index_or ls j no_lines).own
+abbrev pub HoldCentrals : Predictor → ImageRun → List BandLines → Type 0
+HoldCentrals p r ls =
+    (j : ℕ) → j < length ls → HoldsCentral p (slice_index_or ls j no_lines).band r (slice_index_or ls j no_lines).own
 
 -- a line holds σ - 4·s_min of them
-abbrev pub HoldsSums : Predictor → Image → ℕ → ℕ → ℕ → ℕ → List ℤ → Type 0
-HoldsSums p c z y x count sums =
-    (i : ℕ) → i < count → 0 < y + (x + i) → pos 4 *ℤ smin c.kind +ℤ slice_index_or sums i (pos 0) ≡ local_sum p c z y (x + i)
+abbrev pub HoldsSums : Predictor → ℕ → ImageRun → List ℤ → Type 0
+HoldsSums p z r sums =
+    (i : ℕ) → i < r.count → 0 < r.y + (r.x + i) → pos 4 *ℤ smin r.image.kind +ℤ slice_index_or sums i (pos 0) ≡ local_sum p r.image z r.y (r.x + i)
 
 -- three lines hold the directional differences of them
-abbrev pub HoldsDirections : Predictor → Image → ℕ → ℕ → ℕ → ℕ → List (List ℤ) → Type 0
-HoldsDirections p c z y x count lines =
-    (i k : ℕ) → i < count → 0 < y + (x + i) → k < 3 → place lines k i ≡ slice_index_or (directional_differences p c z y (x + i)) k (pos 0)
+abbrev pub HoldsDirections : Predictor → ℕ → ImageRun → List (List ℤ) → Type 0
+HoldsDirections p z r lines = (i k : ℕ) → i < r.count → 0 < r.y + (r.x + i) → k < 3
+    → place lines k i ≡ slice_index_or (directional_differences p r.image z r.y (r.x + i)) k (pos 0)
 
 -- n lines hold the components of U of them, and zeros after the last component
-abbrev pub HoldsComponents : ℕ → Predictor → Image → ℕ → ℕ → ℕ → ℕ → List (List ℤ) → Type 0
-HoldsComponents n p c z y x count lines =
-    (i k : ℕ) → i < count → 0 < y + (x + i) → k < n → place lines k i ≡ slice_index_or (difference_vector p c z y (x + i)) k (pos 0)
+abbrev pub HoldsComponents : ℕ → Predictor → ℕ → ImageRun → List (List ℤ) → Type 0
+HoldsComponents n p z r lines = (i k : ℕ) → i < r.count → 0 < r.y + (r.x + i) → k < n
+    → place lines k i ≡ slice_index_or (difference_vector p r.image z r.y (r.x + i)) k (pos 0)
 
 -- the lines of band z hold what its samples and those of the previous bands tell, with n components
-pub record AreBandsLines (n : ℕ) (p : Predictor) (z : ℕ) (c : Image) (y x count : ℕ) (l : BandLines) : Type 0 where
+pub record AreBandsLines (n : ℕ) (p : Predictor) (z : ℕ) (r : ImageRun) (l : BandLines) : Type 0 where
   pub band : l.band ≡ z
-  pub sums : HoldsSums p c z y x count l.sums
-  pub own : HoldsCentral p c z y x count l.own
-  pub components : HoldsComponents n p c z y x count l.components
+  pub sums : HoldsSums p z r l.sums
+  pub own : HoldsCentral p z r l.own
+  pub components : HoldsComponents n p z r l.components
 
 -- ---- in lines of 32 bits, which hold all of it
 
@@ -65,21 +66,21 @@ abbrev pub no_long_lines : LongLines
 no_long_lines = record { band = 0; sums = []; own = []; components = [] }
 
 -- lines of several bands hold the central differences of each
-abbrev pub HoldLongCentrals : Predictor → Image → ℕ → ℕ → ℕ → List LongLines → Type 0
-HoldLongCentrals p c y x count ls =
-    (j : ℕ) → j < length ls → HoldsCentral p c (slice_index_or ls j no_long_lines).band y x count (slice_index_or ls j no_long_lines).own
+abbrev pub HoldLongCentrals : Predictor → ImageRun → List LongLines → Type 0
+HoldLongCentrals p r ls =
+    (j : ℕ) → j < length ls → HoldsCentral p (slice_index_or ls j no_long_lines).band r (slice_index_or ls j no_long_lines).own
 
 -- and n components of each
-abbrev pub HoldLongComponents : ℕ → Predictor → Image → ℕ → ℕ → ℕ → List LongLines → Type 0
-HoldLongComponents n p c y x count ls =
-    (j : ℕ) → j < length ls → HoldsComponents n p c (slice_index_or ls j no_long_lines).band y x count (slice_index_or ls j no_long_lines).components
+abbrev pub HoldLongComponents : ℕ → Predictor → ImageRun → List LongLines → Type 0
+HoldLongComponents n p r ls =
+    (j : ℕ) → j < length ls → HoldsComponents n p (slice_index_or ls j no_long_lines).band r (slice_index_or ls j no_long_lines).components
 
 -- the lines of band z hold what its samples and those of the previous bands tell, with n components
-pub record AreLongLines (n : ℕ) (p : Predictor) (z : ℕ) (c : Image) (y x count : ℕ) (l : LongLines) : Type 0 where
+pub record AreLongLines (n : ℕ) (p : Predictor) (z : ℕ) (r : ImageRun) (l : LongLines) : Type 0 where
   pub band : l.band ≡ z
-  pub sums : HoldsSums p c z y x count l.sums
-  pub own : HoldsCentral p c z y x count l.own
-  pub components : HoldsComponents n p c z y x count l.components
+  pub sums : HoldsSums p z r l.sums
+  pub own : HoldsCentral p z r l.own
+  pub components : HoldsComponents n p z r l.components
 
 -- predictors of bands have the same parameters
 abbrev pub AreAlike : List PredictorState → Type 0

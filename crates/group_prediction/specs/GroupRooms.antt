@@ -8,19 +8,22 @@ use Rattle.sample_prediction.specs.Predictor.{component_count}
 use Rattle.sample_prediction.specs.Bounds.{AllWithin}
 use Rattle.predict_core.specs.declared.settings.Settings.{Settings}
 use Rattle.group_prediction.specs.declared.band_lines.BandLines.{BandLines}
-use Rattle.predict_core.specs.Following.{PredictorState, IsPieceNext}
+use Rattle.predict_core.specs.Following.{PredictorState}
+use Rattle.predict_core.specs.ImageRuns.{ImageRun, IsFirstLater}
+use Rattle.group_prediction.specs.GroupPieces.{IsRunNext}
 use Rattle.predict_core.specs.BandLanes.{FitsNarrow}
 use Rattle.group_prediction.specs.GroupLines.{HoldsSums, no_lines}
 use Rattle.predict_core.specs.RunChains.{IsFollowed}
 
--- the next n places of each band are those from row y, column x on; all bands have the same parameters; lanes of 16 bits are exact for them, and q pairs
+-- the next places of each band are those of a run; all bands have the same parameters; lanes of 16 bits are exact for them, and q pairs
 -- hold the components of each
-pub record AreReady (q : ℕ) (bands : List PredictorState) (c : Image) (y x n : ℕ) : Type 0 where
+pub record AreReady (q : ℕ) (bands : List PredictorState) (r : ImageRun) : Type 0 where
   pub predictor : Predictor
-  pub each : AllByRecursion (λ b. (b.predictor ≡ predictor) × IsPieceNext b c y x n) bands
-  pub narrow : FitsNarrow predictor c.kind.bits
-  pub wide : predictor.column ≡ false → 2 ≤ c.shape.columns
-  pub some : 1 ≤ n
+  pub each : AllByRecursion (λ b. (b.predictor ≡ predictor) × IsRunNext b r) bands
+  pub narrow : FitsNarrow predictor r.image.kind.bits
+  pub wide : predictor.column ≡ false → 2 ≤ r.image.shape.columns
+  pub some : 1 ≤ r.count
+  pub first : IsFirstLater r.y r.x r.first
   pub enough : (z : ℕ) → component_count predictor z ≤ 2 * q
 
 -- these are the constants of a band's predictor
@@ -30,11 +33,11 @@ pub record AreConstants (s : Settings) (b : PredictorState) (c : Image) : Type 0
   pub kind : s.range.kind ≡ b.kind
   pub columns : s.columns ≡ c.shape.columns
 
--- in lane k are the weights of a band after the n places, and in line k their predicted differences; its local sums are known
-pub record IsPredicted (q k : ℕ) (b : PredictorState) (c : Image) (y x first n : ℕ) (bands : List BandLines) (weights parts : List (List ℤ)) : Type 0 where
+-- in lane k are the weights of a band after a run, and in line k their predicted differences; its local sums are known
+pub record IsPredicted (q k : ℕ) (b : PredictorState) (r : ImageRun) (bands : List BandLines) (weights parts : List (List ℤ)) : Type 0 where
   pub long : length b.weights ≡ component_count b.predictor b.band
-  pub sums : HoldsSums b.predictor c b.band y x n (slice_index_or bands k no_lines).sums
+  pub sums : HoldsSums b.predictor b.band r (slice_index_or bands k no_lines).sums
   pub within : AllWithin (2 ^ (b.predictor.omega + 2)) (weights_of q k weights)
   pub begun : List ℤ
   pub begun_is : take (length b.weights) begun ≡ b.weights
-  pub followed : (s : Settings) → AreConstants s b c → IsFollowed s c y x first begun n (weights_of q k weights) (slice_index_or parts k [])
+  pub followed : (s : Settings) → AreConstants s b r.image → IsFollowed s r.image r.y r.x r.first begun r.count (weights_of q k weights) (slice_index_or parts k [])

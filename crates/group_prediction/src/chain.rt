@@ -11,6 +11,7 @@ ghost use Rattle.predict_core.specs.RunChains.{AreStepsThere, IsFollowed};
 use band_lanes::follow::follow_place;
 use band_lanes::pairs::{MOST_PAIRS, Pairs};
 use band_lanes::step::DeepStep;
+use predict_core::run::PIECE;
 
 /// Writes the predicted central differences of the places `first..last` of a piece, each held in 16 bits, and updates the weights.
 ///
@@ -24,15 +25,15 @@ pub(crate) fn follow_places<
 >(
     weights: &mut [[i16; 16]; MOST_PAIRS],
     pairs: &[Pairs; MOST_PAIRS],
-    own: &[[i16; 8]; 64],
-    parts: &mut [[i16; 8]; 64],
+    own: &[[i16; 8]; PIECE],
+    parts: &mut [[i16; 8]; PIECE],
     step: DeepStep,
     first: usize,
     last: usize,
 )
     requires few { Q ≤ 9 }
     requires order { first ≤ last }
-    requires last { last ≤ 64 }
+    requires last { last ≤ PIECE }
     requires below { (i : ℕ) → first ≤ i → i < last → AreBelow (2 ^ (step.bits + 2)) Q pairs.now i }
     requires raised { RAISED ≡ true → step.exponent ≤ℤ negsuc 0 }
     requires lowered { RAISED ≡ false → pos 0 ≤ℤ step.exponent }

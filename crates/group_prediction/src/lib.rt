@@ -10,7 +10,6 @@ mod lines;
 mod long;
 mod mapping;
 mod pairs;
-mod places;
 pub mod predict;
 pub mod room;
 mod side_by_side;

@@ -6,11 +6,12 @@
 ghost use Rattle.std.specs.Prelude.{◌≡◌, ◌+◌, ◌*◌, ◌^◌, ◌<◌, ℕ, false, pos, ◌-ℤ◌, ◌≤ℤ◌, unsigned_abs, length, slice_index, slice_index_or};
 ghost use Rattle.sample_prediction.specs.Lines.{line_sum};
 
-use predict_core::differences::lines::Lines;
+use predict_core::differences::lines::{LINE, Lines};
+use predict_core::run::PIECE;
 
 /// Writes the local sum of offsets of each place, where 16 bits hold it.
-pub(crate) fn fill_sums(column: bool, lines: &Lines, sums: &mut [i16; 64])
-    ensures { (i : ℕ) → i < 64 → line_sum column lines.now.current lines.now.above i < 2 ^ 15
+pub(crate) fn fill_sums(column: bool, lines: &Lines, sums: &mut [i16; PIECE])
+    ensures { (i : ℕ) → i < PIECE → line_sum column lines.now.current lines.now.above i < 2 ^ 15
         → slice_index_or sums.new i (pos 0) ≡ pos (line_sum column lines.now.current lines.now.above i) }
 {
     if column {
@@ -21,19 +22,19 @@ pub(crate) fn fill_sums(column: bool, lines: &Lines, sums: &mut [i16; 64])
 }
 
 /// Writes four times the northern neighbour of each place.
-fn fill_column_sums(above: &[u16; 66], sums: &mut [i16; 64])
-    ensures { (i : ℕ) → i < 64 → 4 * slice_index above.now (i + 1) < 2 ^ 15 → slice_index_or sums.new i (pos 0) ≡ pos (4 * slice_index above.now (i + 1)) }
+fn fill_column_sums(above: &[u16; LINE], sums: &mut [i16; PIECE])
+    ensures { (i : ℕ) → i < PIECE → 4 * slice_index above.now (i + 1) < 2 ^ 15 → slice_index_or sums.new i (pos 0) ≡ pos (4 * slice_index above.now (i + 1)) }
 {
-    for i in 0..64usize {
+    for i in 0..PIECE {
         sums[i] = above[i + 1].wrapping_mul(4).cast_signed();
     }
 }
 
 /// Writes the sum of four neighbours of each place.
-fn fill_neighbour_sums(current: &[u16; 66], above: &[u16; 66], sums: &mut [i16; 64])
-    ensures { (i : ℕ) → i < 64 → line_sum false current.now above.now i < 2 ^ 15 → slice_index_or sums.new i (pos 0) ≡ pos (line_sum false current.now above.now i) }
+fn fill_neighbour_sums(current: &[u16; LINE], above: &[u16; LINE], sums: &mut [i16; PIECE])
+    ensures { (i : ℕ) → i < PIECE → line_sum false current.now above.now i < 2 ^ 15 → slice_index_or sums.new i (pos 0) ≡ pos (line_sum false current.now above.now i) }
 {
-    for i in 0..64usize {
+    for i in 0..PIECE {
         sums[i] = sum_of_four(current[i], above[i], above[i + 1], above[i + 2]);
     }
 }
@@ -50,13 +51,13 @@ fn sum_of_four(west: u16, north_west: u16, north: u16, north_east: u16) -> i16
 }
 
 /// Writes four times an offset of each place, less its local sum, where 16 bits hold that.
-pub(crate) fn fill_differences(offsets: &[u16], sums: &[i16; 64], out: &mut [i16; 64])
-    requires { length offsets.now ≡ 64 }
-    ensures { (i : ℕ) → i < 64 → pos 0 ≤ℤ slice_index_or sums.now i (pos 0)
+pub(crate) fn fill_differences(offsets: &[u16], sums: &[i16; PIECE], out: &mut [i16; PIECE])
+    requires { length offsets.now ≡ PIECE }
+    ensures { (i : ℕ) → i < PIECE → pos 0 ≤ℤ slice_index_or sums.now i (pos 0)
         → unsigned_abs (pos (4 * slice_index offsets.now i) -ℤ slice_index_or sums.now i (pos 0)) < 2 ^ 15
         → slice_index_or out.new i (pos 0) ≡ pos (4 * slice_index offsets.now i) -ℤ slice_index_or sums.now i (pos 0) }
 {
-    for i in 0..64usize {
+    for i in 0..PIECE {
         out[i] = difference_of(offsets[i], sums[i]);
     }
 }

@@ -5,63 +5,58 @@
 
 ghost use Rattle.std.specs.Prelude.{◌≡◌, ◌+◌, ◌^◌, ◌<◌, ◌≤◌, ℕ, pos, negsuc, ◌≤ℤ◌, ◌+ℤ◌, ◌-ℤ◌, ◌*ℤ◌, unsigned_abs, length, replicate, slice_index, slice_index_or};
 ghost use Rattle.cube_core.specs.Kind.{smin};
-ghost use Rattle.cube_core.specs.Image.{IsPlace, sample_at};
+ghost use Rattle.cube_core.specs.Image.{sample_at};
 ghost use Rattle.sample_prediction.specs.Chain.{scaled_by_difference};
 ghost use Rattle.sample_prediction.specs.LocalSum.{local_sum};
 ghost use Rattle.sample_prediction.specs.Residual.{mapped, mapped_between};
+ghost use Rattle.predict_core.specs.ImageRuns.{IsRunOf};
 ghost use Rattle.predict_core.specs.Rooms.{offset_number};
+ghost use Rattle.group_prediction.specs.GroupLines.{HoldsSums};
 
 use predict_core::narrow_offsets::{half_of, nearer, scaled_offset};
+use predict_core::run::{PIECE, Run};
 use predict_core::settings::Settings;
-use sample_prediction::rows::Rows;
 
-/// Writes the mapped residuals of `count` places of a row, from row `y`, column `x` on.
+/// Writes the mapped residuals of a run.
 ///
 /// `parts` are the predicted central differences, and `sums` the local sums of offsets. What is written for the first
 /// place of a band isn't its residual (CCSDS 123.0-B-1, "Mapped Prediction Residual").
 pub(crate) fn map_piece(
     settings: &Settings,
-    rows: &Rows,
-    y: u32,
-    x: u32,
-    count: usize,
-    parts: &[i16; 64],
-    sums: &[i16; 64],
-    numbers: &mut [u16; 64],
+    run: &Run,
+    parts: &[i16; PIECE],
+    sums: &[i16; PIECE],
+    numbers: &mut [u16; PIECE],
 )
-    requires row { rows.now.y ≡ y }
-    requires place { IsPlace rows.now.image.shape settings.now.band y x }
-    requires kind { rows.now.image.kind ≡ settings.now.range.kind }
-    requires bits { rows.now.image.kind.bits ≤ 13 }
-    requires few { count ≤ 64 }
-    requires inside { x + count ≤ rows.now.image.shape.columns }
-    requires sum { (i : ℕ) → i < count → 0 < y + (x + i) → pos 4 *ℤ smin rows.now.image.kind +ℤ slice_index_or sums.now i (pos 0)
-        ≡ local_sum settings.now.predictor rows.now.image settings.now.band y (x + i) }
-    ensures bound { (i : ℕ) → i < count → slice_index_or numbers.new i 0 < 2 ^ rows.now.image.kind.bits }
-    ensures values { (i : ℕ) → i < count → 0 < y + (x + i)
+    requires run { IsRunOf settings.now.band run.now }
+    requires kind { run.now.image.kind ≡ settings.now.range.kind }
+    requires bits { run.now.image.kind.bits ≤ 13 }
+    requires sums { HoldsSums settings.now.predictor settings.now.band run.now sums.now }
+    ensures bound { (i : ℕ) → i < run.now.count → slice_index_or numbers.new i 0 < 2 ^ run.now.image.kind.bits }
+    ensures values { (i : ℕ) → i < run.now.count → 0 < run.now.y + (run.now.x + i)
         → slice_index_or numbers.new i 0
-        ≡ mapped rows.now.image.kind (scaled_by_difference rows.now.image.kind (slice_index_or parts.now i (pos 0)) (local_sum settings.now.predictor rows.now.image
-        settings.now.band y (x + i))) (sample_at rows.now.image settings.now.band y (x + i)) }
+        ≡ mapped run.now.image.kind (scaled_by_difference run.now.image.kind (slice_index_or parts.now i (pos 0)) (local_sum settings.now.predictor run.now.image
+        settings.now.band run.now.y (run.now.x + i))) (sample_at run.now.image settings.now.band run.now.y (run.now.x + i)) }
 {
-    rows.prove_is_row();
-    let row = rows.row(settings.band);
-    let mut offsets = [0u16; 64];
-    copy_offsets(row, x as usize, count, &mut offsets);
+    run.prove_is_row();
+    let row = run.row(settings.band);
+    let mut offsets = [0u16; PIECE];
+    copy_offsets(row, run.x() as usize, run.count(), &mut offsets);
     let greatest = settings.range.smax - settings.range.smin;
     map_places(greatest as i16, parts, sums, &offsets, numbers);
 }
 
 /// Writes `count` offsets of a row from column `x` on into an array of zeros.
-fn copy_offsets(row: &[u16], x: usize, count: usize, offsets: &mut [u16; 64])
-    requires few { count ≤ 64 }
+fn copy_offsets(row: &[u16], x: usize, count: usize, offsets: &mut [u16; PIECE])
+    requires few { count ≤ PIECE }
     requires inside { x + count ≤ length row.now }
-    requires clear { offsets.old ≡ replicate 64 0 }
+    requires clear { offsets.old ≡ replicate PIECE 0 }
     ensures written { (k : ℕ) → k < count → slice_index offsets.new k ≡ slice_index row.now (x + k) }
     ensures rest { (k : ℕ) → count ≤ k → slice_index offsets.new k ≡ 0 }
 {
-    if count == 64 {
+    if count == PIECE {
         // A copy of this fixed length is a few vector moves instead of a call.
-        offsets.copy_from_slice(&row[x..x + 64]);
+        offsets.copy_from_slice(&row[x..x + PIECE]);
     } else {
         offsets[..count].copy_from_slice(&row[x..x + count]);
     }
@@ -70,18 +65,18 @@ fn copy_offsets(row: &[u16], x: usize, count: usize, offsets: &mut [u16; 64])
 /// Writes the mapped residual of each place's offset.
 fn map_places(
     greatest: i16,
-    parts: &[i16; 64],
-    sums: &[i16; 64],
-    offsets: &[u16; 64],
-    out: &mut [u16; 64],
+    parts: &[i16; PIECE],
+    sums: &[i16; PIECE],
+    offsets: &[u16; PIECE],
+    out: &mut [u16; PIECE],
 )
     requires greatest_in { (pos 1 ≤ℤ greatest) × (greatest ≤ℤ pos 8191) }
-    requires offsets_in { (i : ℕ) → i < 64 → pos (slice_index offsets.now i) ≤ℤ greatest }
-    ensures bound { (i : ℕ) → i < 64 → pos (slice_index out.new i) ≤ℤ greatest }
-    ensures values { (i : ℕ) → i < 64 → slice_index out.new i
+    requires offsets_in { (i : ℕ) → i < PIECE → pos (slice_index offsets.now i) ≤ℤ greatest }
+    ensures bound { (i : ℕ) → i < PIECE → pos (slice_index out.new i) ≤ℤ greatest }
+    ensures values { (i : ℕ) → i < PIECE → slice_index out.new i
         ≡ offset_number greatest (slice_index_or parts.now i (pos 0)) (slice_index_or sums.now i (pos 0)) (slice_index offsets.now i) }
 {
-    for i in 0..64usize {
+    for i in 0..PIECE {
         out[i] = number_of_offset(greatest, parts[i], sums[i], offsets[i]);
     }
 }

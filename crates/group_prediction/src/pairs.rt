@@ -8,12 +8,13 @@ ghost use Rattle.group_prediction.specs.GroupLines.{no_lines};
 use crate::band_lines::{BandLines, copy_line};
 use band_lanes::pairs::{MOST_PAIRS, Pairs, Turned, pair_up};
 use lanes::turn::turn;
+use predict_core::run::PIECE;
 
 /// Room for two components of eight bands, in lines and turned into rows.
 #[derive(Clone, Copy)]
 pub(crate) struct Scratch {
-    pub first: [[i16; 64]; 8],
-    pub second: [[i16; 64]; 8],
+    pub first: [[i16; PIECE]; 8],
+    pub second: [[i16; PIECE]; 8],
     pub turned: Turned,
 }
 
@@ -25,9 +26,9 @@ pub(crate) fn fill_pairs<const Q: usize>(
 )
     requires { Q ≤ 9 }
     ensures long { length pairs.new ≡ 9 }
-    ensures even { (j i b : ℕ) → j < Q → i < 64 → b < 8 → lane (row_at (slice_index_or pairs.new j no_pairs) i) (2 * b)
+    ensures even { (j i b : ℕ) → j < Q → i < PIECE → b < 8 → lane (row_at (slice_index_or pairs.new j no_pairs) i) (2 * b)
         ≡ place (slice_index_or bands.now b no_lines).components (2 * j) i }
-    ensures odd { (j i b : ℕ) → j < Q → i < 64 → b < 8 → lane (row_at (slice_index_or pairs.new j no_pairs) i) (2 * b + 1)
+    ensures odd { (j i b : ℕ) → j < Q → i < PIECE → b < 8 → lane (row_at (slice_index_or pairs.new j no_pairs) i) (2 * b + 1)
         ≡ place (slice_index_or bands.now b no_lines).components (2 * j + 1) i }
 {
     for j in 0..Q {
@@ -43,9 +44,9 @@ fn fill_pair(
     pairs: &mut [Pairs; MOST_PAIRS],
 )
     requires { j < 9 }
-    ensures even { (i b : ℕ) → i < 64 → b < 8 → lane (row_at (slice_index_or pairs.new j no_pairs) i) (2 * b)
+    ensures even { (i b : ℕ) → i < PIECE → b < 8 → lane (row_at (slice_index_or pairs.new j no_pairs) i) (2 * b)
         ≡ place (slice_index_or bands.now b no_lines).components (2 * j) i }
-    ensures odd { (i b : ℕ) → i < 64 → b < 8 → lane (row_at (slice_index_or pairs.new j no_pairs) i) (2 * b + 1)
+    ensures odd { (i b : ℕ) → i < PIECE → b < 8 → lane (row_at (slice_index_or pairs.new j no_pairs) i) (2 * b + 1)
         ≡ place (slice_index_or bands.now b no_lines).components (2 * j + 1) i }
     ensures others { (k : ℕ) → k ≢ j → slice_index_or pairs.new k no_pairs ≡ slice_index_or pairs.old k no_pairs }
 {
@@ -60,7 +61,7 @@ fn fill_pair(
 }
 
 /// Writes line `k` of the components of each band.
-fn collect(bands: &[BandLines; 8], k: usize, lines: &mut [[i16; 64]; 8])
+fn collect(bands: &[BandLines; 8], k: usize, lines: &mut [[i16; PIECE]; 8])
     requires { k < 18 }
     ensures { (b i : ℕ) → b < 8 → place lines.new b i ≡ place (slice_index_or bands.now b no_lines).components k i }
 {
@@ -72,17 +73,17 @@ fn collect(bands: &[BandLines; 8], k: usize, lines: &mut [[i16; 64]; 8])
 /// Writes the central differences of each band, and turns them into rows.
 pub(crate) fn fill_own_rows(
     bands: &[BandLines; 8],
-    lines: &mut [[i16; 64]; 8],
-    rows: &mut [[i16; 8]; 64],
+    lines: &mut [[i16; PIECE]; 8],
+    rows: &mut [[i16; 8]; PIECE],
 )
-    ensures { (i b : ℕ) → i < 64 → b < 8 → lane (slice_index_or rows.new i []) b ≡ slice_index_or (slice_index_or bands.now b no_lines).own i (pos 0) }
+    ensures { (i b : ℕ) → i < PIECE → b < 8 → lane (slice_index_or rows.new i []) b ≡ slice_index_or (slice_index_or bands.now b no_lines).own i (pos 0) }
 {
     collect_own(bands, lines);
     turn(lines, rows);
 }
 
 /// Writes the central differences of each band.
-fn collect_own(bands: &[BandLines; 8], lines: &mut [[i16; 64]; 8])
+fn collect_own(bands: &[BandLines; 8], lines: &mut [[i16; PIECE]; 8])
     ensures { (b i : ℕ) → b < 8 → place lines.new b i ≡ slice_index_or (slice_index_or bands.now b no_lines).own i (pos 0) }
 {
     for b in 0..8usize {
@@ -92,7 +93,7 @@ fn collect_own(bands: &[BandLines; 8], lines: &mut [[i16; 64]; 8])
 
 /// Writes line `b`.
 #[inline(always)]
-fn put_line(from: &[i16; 64], b: usize, lines: &mut [[i16; 64]; 8])
+fn put_line(from: &[i16; PIECE], b: usize, lines: &mut [[i16; PIECE]; 8])
     requires { b < 8 }
     ensures here { (i : ℕ) → place lines.new b i ≡ slice_index_or from.now i (pos 0) }
     ensures others { (k i : ℕ) → k ≢ b → place lines.new k i ≡ place lines.old k i }

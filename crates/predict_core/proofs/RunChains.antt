@@ -10,7 +10,8 @@ use Rattle.sample_prediction.specs.Bounds.{AllWithin}
 use Rattle.sample_prediction.specs.Chain.{AreWeightsAt}
 use Rattle.sample_prediction.specs.Prediction.{weight_vector}
 use Rattle.sample_prediction.specs.Residual.{run_residuals}
-use Rattle.predict_core.specs.RunChains.{CanFollow, CanPredict, IsFirstLater, IsFollowed, HasPredicted}
+use Rattle.predict_core.specs.ImageRuns.{ImageRun, IsFirstLater}
+use Rattle.predict_core.specs.RunChains.{CanFollow, CanPredict, IsFollowed, HasPredicted}
 use Rattle.predict_core.specs.Rooms.{IsRoom, quads_of}
 use Rattle.predict_core.proofs.WholeRuns.{started}
 
@@ -69,18 +70,18 @@ predicted s c y x first n old ws new parts rs at followed within bound written s
     place y columns = omega arith
 
 -- what a chain needs, of what is known before a run
-pub can_follow : (q n : ℕ) (wraps : Bool) (s : Settings) (c : Image) (y x count : ℕ) (ws sums own : List ℤ) (quads : List Quad) → n ≤ 18 → s.count ≤ n
-    → q ≡ quads_of s.count → (wraps ≡ false → 46 ≤ s.predictor.register) → CanPredict s c y x count ws
-    → IsRoom s.predictor c s.band y x count s.count sums own quads → CanFollow q n wraps s c y x count sums own quads
-can_follow q n wraps s c y x count ws sums own quads few enough needed register can room = record {
+pub can_follow : (q n : ℕ) (wraps : Bool) (s : Settings) (r : ImageRun) (ws sums own : List ℤ) (quads : List Quad) → n ≤ 18 → s.count ≤ n
+    → q ≡ quads_of s.count → (wraps ≡ false → 46 ≤ s.predictor.register) → CanPredict s r ws
+    → IsRoom s.predictor r.image s.band r.y r.x r.count s.count sums own quads → CanFollow q n wraps s r.image r.y r.x r.count sums own quads
+can_follow q n wraps s r ws sums own quads few enough needed register can room = record {
   few = few;
   enough = enough;
   needed = needed;
   register = register;
-  place = can.place;
+  place = can.run.place;
   columns = can.columns;
   kind = can.kind;
-  within = can.few;
-  inside = can.inside;
+  within = can.run.few;
+  inside = can.run.inside;
   room = room;
 }

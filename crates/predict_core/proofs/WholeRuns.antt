@@ -1,5 +1,5 @@
 -- The residuals of a whole run, from its predictions.
-use Rattle.std.proofs.Common.{◌≡◌, ℕ, zero, suc, ◌+◌, ◌*◌, ◌<◌, ℤ, List, [], ◌∷◌, map, length, get_or, set, refl, sym, ap, ◌∙◌, arith, inl, inr, length-set}
+use Rattle.std.proofs.Common.{◌≡◌, ℕ, zero, suc, ◌+◌, ◌*◌, ◌<◌, ℤ, List, [], ◌∷◌, map, length, take, get_or, set, refl, sym, ap, ◌∙◌, arith, inl, inr, length-set}
 use Rattle.std.proofs.Common.{get_or-set_same, get_or-set_other}
 use Rattle.std.proofs.lemmas.Bool.{cases_eq}
 use Rattle.header_bits.specs.declared.params.Params.{Params}
@@ -11,6 +11,12 @@ use Rattle.sample_prediction.specs.Predictor.{predictor_of}
 use Rattle.sample_prediction.specs.Prediction.{first_scaled, scaled_prediction, weight_vector}
 use Rattle.sample_prediction.specs.Residual.{mapped, mapped_residual, run_residuals}
 use Rattle.predict_core.proofs.Following.{mapped_at as residual_of, follows_first, first_residual_is}
+
+-- a first entry may be written before a list is cut or after
+pub set_taken : (n : ℕ) (xs : List ℕ) (r : ℕ) → take n (set xs 0 r) ≡ set (take n xs) 0 r
+set_taken zero xs r = refl
+set_taken (suc n) [] r = refl
+set_taken (suc n) (x ∷ xs) r = refl
 
 -- a list is told by its entries
 listed : (f : ℕ → ℕ) (t : ℕ) (rs : List ℕ) → ((i : ℕ) → i < length rs → get_or rs i 0 ≡ f (t + i)) → rs ≡ map f (from t (length rs))

@@ -9,6 +9,7 @@ use Rattle.sample_prediction.specs.Bounds.{AllWithin}
 use Rattle.sample_prediction.specs.Residual.{run_residuals}
 use Rattle.sample_prediction.specs.Weights.{step_exponent}
 use Rattle.sample_prediction.specs.Prediction.{weight_vector, scaled_prediction}
+use Rattle.predict_core.specs.ImageRuns.{ImageRun, IsRunOf}
 use Rattle.predict_core.specs.Rooms.{IsRoom, quads_of}
 use Rattle.sample_prediction.specs.Chain.{scaled_by_difference, AreWeightsAt}
 
@@ -40,20 +41,11 @@ pub record IsFollowed (s : Settings) (c : Image) (y x first : ℕ) (begun : List
       (local_sum s.predictor c s.band y (x + i))
   pub small : (i : ℕ) → first ≤ i → i < at → unsigned_abs (slice_index_or parts i (pos 0)) ≤ 18 * 2 ^ 20
 
--- `first` is the first place of a run from row y, column x on that isn't at t = 0: 1 if the run begins the band, else 0
-pub record IsFirstLater (y x first : ℕ) : Type 0 where
-  pub most : first ≤ 1
-  pub later : 0 < y + (x + first)
-  pub start : first ≡ 1 → y + x ≡ 0
-
--- the next n places of a band, at most 64, are in one row, and the weights there are in their range
-pub record CanPredict (s : Settings) (c : Image) (y x n : ℕ) (ws : List ℤ) : Type 0 where
-  pub place : IsPlace c.shape s.band y x
-  pub columns : c.shape.columns ≡ s.columns
-  pub kind : c.kind ≡ s.range.kind
-  pub some : 1 ≤ n
-  pub few : n ≤ 64
-  pub inside : x + n ≤ c.shape.columns
+-- a run is one of the band, and the weights at its first place are in their range
+pub record CanPredict (s : Settings) (r : ImageRun) (ws : List ℤ) : Type 0 where
+  pub run : IsRunOf s.band r
+  pub columns : r.image.shape.columns ≡ s.columns
+  pub kind : r.image.kind ≡ s.range.kind
   pub weights_in : AllWithin (2 ^ (s.predictor.omega + 2)) ws
 
 -- the mapped residuals of n places from row y, column x on, and the weights after them

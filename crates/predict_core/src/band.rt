@@ -13,6 +13,7 @@ ghost use Rattle.predict_core.specs.Following.{Follows, IsMadeFor, MovesOn};
 
 use crate::differences::west::WestMasks;
 use crate::prediction::{first_scaled, learn, predict};
+use crate::run::PIECE;
 use crate::settings::Settings;
 use cube_core::cube::Cube;
 use cube_core::fault::Fault;
@@ -35,7 +36,7 @@ pub struct Band {
     shape: Shape,
     pub next: u64,
     pub weights: [i32; MOST_COMPONENTS],
-    pub piece: [u16; 64],
+    pub piece: [u16; PIECE],
 }
 
 impl Model for Band {
@@ -88,7 +89,7 @@ impl Band {
             shape: params.shape,
             next: 0,
             weights: start_of(params, z, first, previous),
-            piece: [0; 64],
+            piece: [0; PIECE],
         })
     }
 

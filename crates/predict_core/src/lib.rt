@@ -12,6 +12,7 @@ pub mod laws;
 pub mod mapping;
 pub mod narrow_offsets;
 mod prediction;
+pub mod run;
 pub mod settings;
 
 pub use sample_prediction::{handed, predictor, residual, rows, worked};

@@ -8,68 +8,62 @@
 ghost use Rattle.std.specs.Prelude.{◌≡◌, ◌+◌, ◌*◌, ◌^◌, ◌<◌, ◌≤◌, ℕ, pos, negsuc, ◌≤ℤ◌, ◌+ℤ◌, ◌-ℤ◌, ◌*ℤ◌, unsigned_abs, length, replicate, slice_index};
 ghost use Rattle.std.specs.Prelude.{slice_index_or};
 ghost use Rattle.cube_core.specs.Kind.{smin, smid, smax};
-ghost use Rattle.cube_core.specs.Image.{IsPlace, sample_at};
+ghost use Rattle.cube_core.specs.Image.{sample_at};
 ghost use Rattle.sample_prediction.specs.Arithmetic.{floor_div, clip};
 ghost use Rattle.sample_prediction.specs.LocalSum.{local_sum};
 ghost use Rattle.sample_prediction.specs.Residual.{theta_between, mapped, mapped_between};
+ghost use Rattle.predict_core.specs.ImageRuns.{IsRunOf};
 ghost use Rattle.predict_core.specs.Rooms.{offset_number};
 
+use crate::run::{PIECE, Run};
 use crate::settings::Settings;
 use sample_prediction::residual::prediction_of;
-use sample_prediction::rows::Rows;
 
-/// Writes the mapped residuals of a run of places from row `y`, column `x` on, as many as there is room for.
+/// Writes the mapped residuals of a run.
 ///
 /// `parts` are the predicted central differences, and `sums` the local sums of offsets. What is written for the first
 /// place of a band isn't its residual (CCSDS 123.0-B-1, "Mapped Prediction Residual").
 pub fn map_run(
     settings: &Settings,
-    rows: &Rows,
-    y: u32,
-    x: u32,
-    parts: &[i32; 64],
-    sums: &[i32; 64],
-    residuals: &mut [u16],
+    run: &Run,
+    parts: &[i32; PIECE],
+    sums: &[i32; PIECE],
+    residuals: &mut [u16; PIECE],
 )
-    requires row { rows.now.y ≡ y }
-    requires place { IsPlace rows.now.image.shape settings.now.band y x }
-    requires kind { rows.now.image.kind ≡ settings.now.range.kind }
-    requires few { length residuals.old ≤ 64 }
-    requires inside { x + length residuals.old ≤ rows.now.image.shape.columns }
-    requires parts_in { (i : ℕ) → i < length residuals.old → 0 < y + (x + i) → unsigned_abs (slice_index_or parts.now i (pos 0)) ≤ 18 * 2 ^ 20 }
-    requires sum_least { (i : ℕ) → i < length residuals.old → 0 < y + (x + i) → pos 0 ≤ℤ slice_index_or sums.now i (pos 0) }
-    requires sum_most { (i : ℕ) → i < length residuals.old → 0 < y + (x + i) → slice_index_or sums.now i (pos 0) ≤ℤ pos 262140 }
-    requires sum { (i : ℕ) → i < length residuals.old → 0 < y + (x + i) → pos 4 *ℤ smin rows.now.image.kind +ℤ slice_index_or sums.now i (pos 0)
-        ≡ local_sum settings.now.predictor rows.now.image settings.now.band y (x + i) }
-    ensures bound { (i : ℕ) → i < length residuals.new → slice_index residuals.new i < 2 ^ rows.now.image.kind.bits }
-    ensures values { (i : ℕ) → i < length residuals.new → 0 < y + (x + i)
-        → slice_index residuals.new i
-        ≡ mapped rows.now.image.kind (clip (floor_div (slice_index_or parts.now i (pos 0) +ℤ (local_sum settings.now.predictor rows.now.image settings.now.band y
-        (x + i) -ℤ pos 4 *ℤ smid rows.now.image.kind)) 2 +ℤ pos 2 *ℤ smid rows.now.image.kind +ℤ pos 1) (pos 2 *ℤ smin rows.now.image.kind) (pos 2 *ℤ smax rows.now.image.kind +ℤ
-        pos 1)) (sample_at rows.now.image settings.now.band y (x + i)) }
+    requires run { IsRunOf settings.now.band run.now }
+    requires kind { run.now.image.kind ≡ settings.now.range.kind }
+    requires parts_in { (i : ℕ) → i < run.now.count → 0 < run.now.y + (run.now.x + i) → unsigned_abs (slice_index_or parts.now i (pos 0)) ≤ 18 * 2 ^ 20 }
+    requires sum_least { (i : ℕ) → i < run.now.count → 0 < run.now.y + (run.now.x + i) → pos 0 ≤ℤ slice_index_or sums.now i (pos 0) }
+    requires sum_most { (i : ℕ) → i < run.now.count → 0 < run.now.y + (run.now.x + i) → slice_index_or sums.now i (pos 0) ≤ℤ pos 262140 }
+    requires sum { (i : ℕ) → i < run.now.count → 0 < run.now.y + (run.now.x + i) → pos 4 *ℤ smin run.now.image.kind +ℤ slice_index_or sums.now i (pos 0)
+        ≡ local_sum settings.now.predictor run.now.image settings.now.band run.now.y (run.now.x + i) }
+    ensures long { length residuals.new ≡ 64 }
+    ensures bound { (i : ℕ) → i < run.now.count → slice_index_or residuals.new i 0 < 2 ^ run.now.image.kind.bits }
+    ensures values { (i : ℕ) → i < run.now.count → 0 < run.now.y + (run.now.x + i)
+        → slice_index_or residuals.new i 0
+        ≡ mapped run.now.image.kind (clip (floor_div (slice_index_or parts.now i (pos 0) +ℤ (local_sum settings.now.predictor run.now.image settings.now.band
+        run.now.y (run.now.x + i) -ℤ pos 4 *ℤ smid run.now.image.kind)) 2 +ℤ pos 2 *ℤ smid run.now.image.kind +ℤ pos 1) (pos 2 *ℤ smin run.now.image.kind)
+        (pos 2 *ℤ smax run.now.image.kind +ℤ pos 1)) (sample_at run.now.image settings.now.band run.now.y (run.now.x + i)) }
 {
-    rows.prove_is_row();
-    let count = residuals.len();
-    let row = rows.row(settings.band);
-    let mut offsets = [0u16; 64];
-    copy_offsets(row, x as usize, count, &mut offsets);
-    let mut numbers = [0u16; 64];
+    run.prove_is_row();
+    let row = run.row(settings.band);
+    let mut offsets = [0u16; PIECE];
+    copy_offsets(row, run.x() as usize, run.count(), &mut offsets);
     let greatest = settings.range.smax - settings.range.smin;
-    map_places(greatest, parts, sums, &offsets, &mut numbers);
-    residuals.copy_from_slice(&numbers[..count]);
+    map_places(greatest, parts, sums, &offsets, residuals);
 }
 
 /// Writes `count` offsets of a row from column `x` on into an array of zeros.
-pub fn copy_offsets(row: &[u16], x: usize, count: usize, offsets: &mut [u16; 64])
+pub fn copy_offsets(row: &[u16], x: usize, count: usize, offsets: &mut [u16; PIECE])
     requires few { count ≤ 64 }
     requires inside { x + count ≤ length row.now }
     requires clear { offsets.old ≡ replicate 64 0 }
     ensures written { (k : ℕ) → k < count → slice_index offsets.new k ≡ slice_index row.now (x + k) }
     ensures rest { (k : ℕ) → count ≤ k → slice_index offsets.new k ≡ 0 }
 {
-    if count == 64 {
+    if count == PIECE {
         // A copy of this fixed length is a few vector moves instead of a call.
-        offsets.copy_from_slice(&row[x..x + 64]);
+        offsets.copy_from_slice(&row[x..x + PIECE]);
     } else {
         offsets[..count].copy_from_slice(&row[x..x + count]);
     }
@@ -78,19 +72,19 @@ pub fn copy_offsets(row: &[u16], x: usize, count: usize, offsets: &mut [u16; 64]
 /// Writes the mapped residual of each place's offset.
 fn map_places(
     greatest: i32,
-    parts: &[i32; 64],
-    sums: &[i32; 64],
-    offsets: &[u16; 64],
-    out: &mut [u16; 64],
+    parts: &[i32; PIECE],
+    sums: &[i32; PIECE],
+    offsets: &[u16; PIECE],
+    out: &mut [u16; PIECE],
 )
     requires greatest_in { (pos 1 ≤ℤ greatest) × (greatest ≤ℤ pos 65535) }
-    requires offsets_in { (i : ℕ) → i < 64 → pos (slice_index offsets.now i) ≤ℤ greatest }
-    ensures bound { (i : ℕ) → i < 64 → pos (slice_index out.new i) ≤ℤ greatest }
-    ensures values { (i : ℕ) → i < 64 → unsigned_abs (slice_index_or parts.now i (pos 0)) ≤ 18 * 2 ^ 20 → pos 0 ≤ℤ slice_index_or sums.now i (pos 0)
+    requires offsets_in { (i : ℕ) → i < PIECE → pos (slice_index offsets.now i) ≤ℤ greatest }
+    ensures bound { (i : ℕ) → i < PIECE → pos (slice_index out.new i) ≤ℤ greatest }
+    ensures values { (i : ℕ) → i < PIECE → unsigned_abs (slice_index_or parts.now i (pos 0)) ≤ 18 * 2 ^ 20 → pos 0 ≤ℤ slice_index_or sums.now i (pos 0)
         → slice_index_or sums.now i (pos 0) ≤ℤ pos 262140
         → slice_index out.new i ≡ offset_number greatest (slice_index_or parts.now i (pos 0)) (slice_index_or sums.now i (pos 0)) (slice_index offsets.now i) }
 {
-    for i in 0..64usize {
+    for i in 0..PIECE {
         out[i] = number_of_offset(greatest, parts[i], sums[i], offsets[i]);
     }
 }

@@ -13,6 +13,7 @@ ghost use Rattle.predict_core.specs.RunChains.{AreStepsThere, IsFollowed};
 use band_lanes::four::follow::follow_four;
 use band_lanes::four::rows::Rows;
 use band_lanes::four::step::LongStep;
+use predict_core::run::PIECE;
 use sample_prediction::predictor::MOST_COMPONENTS;
 
 /// Writes the predicted central differences of the places `first..last` of a piece, and updates the weights.
@@ -22,15 +23,15 @@ use sample_prediction::predictor::MOST_COMPONENTS;
 pub(crate) fn follow_places<const Q: usize, const RAISED: bool>(
     weights: &mut [[i32; 4]; MOST_COMPONENTS],
     rows: &[Rows; MOST_COMPONENTS],
-    own: &[[i32; 4]; 64],
-    parts: &mut [[i32; 4]; 64],
+    own: &[[i32; 4]; PIECE],
+    parts: &mut [[i32; 4]; PIECE],
     step: LongStep,
     first: usize,
     last: usize,
 )
     requires few { Q ≤ 9 }
     requires order { first ≤ last }
-    requires last { last ≤ 64 }
+    requires last { last ≤ PIECE }
     requires small { (i b : ℕ) → first ≤ i → i < last → b < 4 → AllWithin (2 ^ (step.bits + 2)) (row_components (2 * Q) b rows.now i) }
     requires raised { RAISED ≡ true → step.exponent ≤ℤ negsuc 0 }
     requires lowered { RAISED ≡ false → pos 0 ≤ℤ step.exponent }

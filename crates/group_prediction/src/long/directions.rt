@@ -1,82 +1,77 @@
 //! The directional differences of a piece of one band, in lines of 32 bits.
 
 ghost use Rattle.std.specs.Prelude.{◌≡◌, ◌≢◌, ◌+◌, ◌*◌, ◌<◌, ◌≤◌, ◌||◌, ◌==◌, ℕ, pos, length, slice_index, slice_index_or};
-ghost use Rattle.cube_core.specs.Image.{IsPlace};
 ghost use Rattle.lanes.specs.Lanes.{place};
 ghost use Rattle.sample_prediction.specs.Lines.{line_sum, AreBandLines};
+ghost use Rattle.predict_core.specs.ImageRuns.{IsRunOf};
 ghost use Rattle.group_prediction.specs.GroupLines.{IsLongDifference, HoldsDirections};
 
 use predict_core::differences::lines::Lines;
+use predict_core::run::{PIECE, Run};
 use predict_core::settings::Settings;
 use sample_prediction::predictor::MOST_COMPONENTS;
-use sample_prediction::rows::Rows;
 
 /// Writes the directional differences into the first three lines of components (CCSDS 123.0-B-1, "Local Differences").
 pub(crate) fn fill_directions(
     settings: &Settings,
-    rows: &Rows,
-    y: u32,
-    x: u32,
-    count: usize,
+    run: &Run,
     lines: &Lines,
-    sums: &[i32; 64],
-    components: &mut [[i32; 64]; MOST_COMPONENTS],
+    sums: &[i32; PIECE],
+    components: &mut [[i32; PIECE]; MOST_COMPONENTS],
 )
-    requires place { IsPlace rows.now.image.shape settings.now.band y x }
-    requires columns { rows.now.image.shape.columns ≡ settings.now.columns }
-    requires few { count ≤ 64 }
-    requires inside { x + count ≤ rows.now.image.shape.columns }
-    requires lines { AreBandLines settings.now.predictor rows.now.image settings.now.band y x count lines.now.current lines.now.above }
-    requires sums { (i : ℕ) → i < count → 0 < y + (x + i) → slice_index_or sums.now i (pos 0) ≡ pos (line_sum (settings.now.predictor.column || y == 0)
+    requires run { IsRunOf settings.now.band run.now }
+    requires columns { run.now.image.shape.columns ≡ settings.now.columns }
+    requires lines { AreBandLines settings.now.predictor run.now.image settings.now.band run.now.y run.now.x run.now.count lines.now.current lines.now.above }
+    requires sums { (i : ℕ) → i < run.now.count → 0 < run.now.y + (run.now.x + i) → slice_index_or sums.now i (pos 0) ≡ pos (line_sum (settings.now.predictor.column || run.now.y == 0)
         lines.now.current lines.now.above i) }
-    ensures { HoldsDirections settings.now.predictor rows.now.image settings.now.band y x count components.new }
+    ensures { HoldsDirections settings.now.predictor settings.now.band run.now components.new }
 {
-    rows.prove_is_row();
-    if y == 0 {
+    run.prove_is_row();
+    if run.y() == 0 {
         clear(0, components);
         clear(1, components);
         clear(2, components);
         return;
     }
     fill_three(lines, sums, components);
-    if x == 0 {
+    if run.x() == 0 {
         repeat_north(components);
     }
 }
 
 /// Writes the differences of the offsets to the north, west and north-west of each place.
-fn fill_three(lines: &Lines, sums: &[i32; 64], components: &mut [[i32; 64]; MOST_COMPONENTS])
-    ensures north { (i : ℕ) → i < 64 → IsLongDifference (slice_index lines.now.above (i + 1)) (slice_index_or sums.now i (pos 0)) (place components.new 0 i) }
-    ensures west { (i : ℕ) → i < 64 → IsLongDifference (slice_index lines.now.current i) (slice_index_or sums.now i (pos 0)) (place components.new 1 i) }
-    ensures north_west { (i : ℕ) → i < 64 → IsLongDifference (slice_index lines.now.above i) (slice_index_or sums.now i (pos 0)) (place components.new 2 i) }
+fn fill_three(lines: &Lines, sums: &[i32; PIECE], components: &mut [[i32; PIECE]; MOST_COMPONENTS])
+    ensures north { (i : ℕ) → i < PIECE → IsLongDifference (slice_index lines.now.above (i + 1)) (slice_index_or sums.now i (pos 0)) (place components.new 0 i) }
+    ensures west { (i : ℕ) → i < PIECE → IsLongDifference (slice_index lines.now.current i) (slice_index_or sums.now i (pos 0)) (place components.new 1 i) }
+    ensures north_west { (i : ℕ) → i < PIECE → IsLongDifference (slice_index lines.now.above i) (slice_index_or sums.now i (pos 0)) (place components.new 2 i) }
 {
-    fill_component(&lines.above[1..65], sums, 0, components);
-    fill_component(&lines.current[..64], sums, 1, components);
-    fill_component(&lines.above[..64], sums, 2, components);
+    fill_component(&lines.above[1..PIECE + 1], sums, 0, components);
+    fill_component(&lines.current[..PIECE], sums, 1, components);
+    fill_component(&lines.above[..PIECE], sums, 2, components);
 }
 
 /// Writes the differences of the offsets of each place into line `k` of components.
 #[inline(always)]
 fn fill_component(
     offsets: &[u16],
-    sums: &[i32; 64],
+    sums: &[i32; PIECE],
     k: usize,
-    components: &mut [[i32; 64]; MOST_COMPONENTS],
+    components: &mut [[i32; PIECE]; MOST_COMPONENTS],
 )
-    requires long { length offsets.now ≡ 64 }
+    requires long { length offsets.now ≡ PIECE }
     requires line { k < 18 }
-    ensures told { (i : ℕ) → i < 64 → IsLongDifference (slice_index offsets.now i) (slice_index_or sums.now i (pos 0)) (place components.new k i) }
+    ensures told { (i : ℕ) → i < PIECE → IsLongDifference (slice_index offsets.now i) (slice_index_or sums.now i (pos 0)) (place components.new k i) }
     ensures others { (j i : ℕ) → j ≢ k → place components.new j i ≡ place components.old j i }
 {
     fill_differences(offsets, sums, &mut components[k]);
 }
 
 /// Writes four times an offset of each place, less its local sum.
-fn fill_differences(offsets: &[u16], sums: &[i32; 64], out: &mut [i32; 64])
-    requires { length offsets.now ≡ 64 }
-    ensures { (i : ℕ) → i < 64 → IsLongDifference (slice_index offsets.now i) (slice_index_or sums.now i (pos 0)) (slice_index_or out.new i (pos 0)) }
+fn fill_differences(offsets: &[u16], sums: &[i32; PIECE], out: &mut [i32; PIECE])
+    requires { length offsets.now ≡ PIECE }
+    ensures { (i : ℕ) → i < PIECE → IsLongDifference (slice_index offsets.now i) (slice_index_or sums.now i (pos 0)) (slice_index_or out.new i (pos 0)) }
 {
-    for i in 0..64usize {
+    for i in 0..PIECE {
         out[i] = less_sum(offsets[i], sums[i]);
     }
 }
@@ -90,7 +85,7 @@ fn less_sum(offset: u16, sum: i32) -> i32
 }
 
 /// Replaces the other two directional differences of the first place by the northern one.
-fn repeat_north(components: &mut [[i32; 64]; MOST_COMPONENTS])
+fn repeat_north(components: &mut [[i32; PIECE]; MOST_COMPONENTS])
     ensures north { place components.new 0 0 ≡ place components.old 0 0 }
     ensures west { place components.new 1 0 ≡ place components.old 0 0 }
     ensures north_west { place components.new 2 0 ≡ place components.old 0 0 }
@@ -102,7 +97,7 @@ fn repeat_north(components: &mut [[i32; 64]; MOST_COMPONENTS])
 }
 
 /// Writes the first place of line `k` of components.
-fn put_first(value: i32, k: usize, components: &mut [[i32; 64]; MOST_COMPONENTS])
+fn put_first(value: i32, k: usize, components: &mut [[i32; PIECE]; MOST_COMPONENTS])
     requires { k < 18 }
     ensures first { place components.new k 0 ≡ value }
     ensures later { (i : ℕ) → 0 < i → place components.new k i ≡ place components.old k i }
@@ -112,7 +107,7 @@ fn put_first(value: i32, k: usize, components: &mut [[i32; 64]; MOST_COMPONENTS]
 }
 
 /// Writes the first place of a line.
-fn set_first(value: i32, line: &mut [i32; 64])
+fn set_first(value: i32, line: &mut [i32; PIECE])
     ensures first { slice_index_or line.new 0 (pos 0) ≡ value }
     ensures later { (i : ℕ) → 0 < i → slice_index_or line.new i (pos 0) ≡ slice_index_or line.old i (pos 0) }
 {
@@ -120,17 +115,17 @@ fn set_first(value: i32, line: &mut [i32; 64])
 }
 
 /// Writes zeros into line `k` of components.
-fn clear(k: usize, components: &mut [[i32; 64]; MOST_COMPONENTS])
+fn clear(k: usize, components: &mut [[i32; PIECE]; MOST_COMPONENTS])
     requires { k < 18 }
-    ensures zeros { (i : ℕ) → i < 64 → place components.new k i ≡ pos 0 }
+    ensures zeros { (i : ℕ) → i < PIECE → place components.new k i ≡ pos 0 }
     ensures others { (j i : ℕ) → j ≢ k → place components.new j i ≡ place components.old j i }
 {
     clear_line(&mut components[k]);
 }
 
 /// Writes zeros into a line.
-pub(crate) fn clear_line(line: &mut [i32; 64])
-    ensures { (i : ℕ) → i < 64 → slice_index_or line.new i (pos 0) ≡ pos 0 }
+pub(crate) fn clear_line(line: &mut [i32; PIECE])
+    ensures { (i : ℕ) → i < PIECE → slice_index_or line.new i (pos 0) ≡ pos 0 }
 {
-    *line = [0; 64];
+    *line = [0; PIECE];
 }

@@ -2,16 +2,17 @@
 
 use crate::long::lines::LongLines;
 use band_lanes::four::rows::Rows;
+use predict_core::run::PIECE;
 use sample_prediction::predictor::MOST_COMPONENTS;
 
 /// Room for what is computed of a piece of four bands.
 #[derive(Clone, Copy)]
 pub(crate) struct FourRoom {
     pub components: [Rows; MOST_COMPONENTS],
-    pub own: [[i32; 4]; 64],
+    pub own: [[i32; 4]; PIECE],
     pub weights: [[i32; 4]; MOST_COMPONENTS],
-    pub turned: [[i32; 4]; 64],
-    pub parts: [[i32; 64]; 4],
+    pub turned: [[i32; 4]; PIECE],
+    pub parts: [[i32; PIECE]; 4],
 }
 
 /// Room for the lines of eight bands, and for what is computed of four of them at a time.
@@ -26,18 +27,18 @@ impl LongRoom {
     pub(crate) fn new() -> LongRoom {
         let lines = LongLines {
             band: 0,
-            sums: [0; 64],
-            own: [0; 64],
-            components: [[0; 64]; MOST_COMPONENTS],
+            sums: [0; PIECE],
+            own: [0; PIECE],
+            components: [[0; PIECE]; MOST_COMPONENTS],
         };
         let four = FourRoom {
             components: [Rows {
-                places: [[0; 4]; 64],
+                places: [[0; 4]; PIECE],
             }; MOST_COMPONENTS],
-            own: [[0; 4]; 64],
+            own: [[0; 4]; PIECE],
             weights: [[0; 4]; MOST_COMPONENTS],
-            turned: [[0; 4]; 64],
-            parts: [[0; 64]; 4],
+            turned: [[0; 4]; PIECE],
+            parts: [[0; PIECE]; 4],
         };
         LongRoom {
             lines: [lines; 8],

@@ -8,6 +8,7 @@ ghost use Rattle.group_prediction.specs.GroupLines.{no_long_lines};
 use crate::long::lines::LongLines;
 use band_lanes::four::rows::Rows;
 use lanes::turn_four::turn_four;
+use predict_core::run::PIECE;
 use sample_prediction::predictor::MOST_COMPONENTS;
 
 /// Writes the first 2·`Q` components of four bands, from band `from` on.
@@ -19,7 +20,7 @@ pub(crate) fn fill_rows<const Q: usize>(
     requires few { Q ≤ 9 }
     requires bands { from + 4 ≤ 8 }
     ensures long { length rows.new ≡ 18 }
-    ensures rows { (k i b : ℕ) → k < 2 * Q → i < 64 → b < 4 → place (slice_index_or rows.new k no_rows).places i b
+    ensures rows { (k i b : ℕ) → k < 2 * Q → i < PIECE → b < 4 → place (slice_index_or rows.new k no_rows).places i b
         ≡ place (slice_index_or bands.now (from + b) no_long_lines).components k i }
 {
     for k in 0..2 * Q {
@@ -31,7 +32,7 @@ pub(crate) fn fill_rows<const Q: usize>(
 fn fill_component(bands: &[LongLines; 8], from: usize, k: usize, rows: &mut [Rows; MOST_COMPONENTS])
     requires component { k < 18 }
     requires bands { from + 4 ≤ 8 }
-    ensures here { (i b : ℕ) → i < 64 → b < 4 → place (slice_index_or rows.new k no_rows).places i b
+    ensures here { (i b : ℕ) → i < PIECE → b < 4 → place (slice_index_or rows.new k no_rows).places i b
         ≡ place (slice_index_or bands.now (from + b) no_long_lines).components k i }
     ensures others { (j : ℕ) → j ≢ k → slice_index_or rows.new j no_rows ≡ slice_index_or rows.old j no_rows }
 {
@@ -45,9 +46,9 @@ fn fill_component(bands: &[LongLines; 8], from: usize, k: usize, rows: &mut [Row
 }
 
 /// Writes the central differences of four bands, from band `from` on.
-pub(crate) fn fill_own(bands: &[LongLines; 8], from: usize, own: &mut [[i32; 4]; 64])
+pub(crate) fn fill_own(bands: &[LongLines; 8], from: usize, own: &mut [[i32; 4]; PIECE])
     requires { from + 4 ≤ 8 }
-    ensures { (i b : ℕ) → i < 64 → b < 4 → place own.new i b ≡ lane (slice_index_or bands.now (from + b) no_long_lines).own i }
+    ensures { (i b : ℕ) → i < PIECE → b < 4 → place own.new i b ≡ lane (slice_index_or bands.now (from + b) no_long_lines).own i }
 {
     turn_four(
         &bands[from].own,

@@ -8,12 +8,13 @@ ghost use Rattle.band_lanes.specs.Fours.{column_of, row_components};
 ghost use Rattle.sample_prediction.specs.Bounds.{AllWithin};
 ghost use Rattle.predict_core.specs.declared.settings.Settings.{Settings as Constants};
 ghost use Rattle.group_prediction.specs.GroupLanes.{IsLongLane};
+ghost use Rattle.predict_core.specs.ImageRuns.{IsRunOf};
 ghost use Rattle.predict_core.specs.RunChains.{AreStepsThere, IsFollowed};
 
 use crate::long::chain::follow_places;
-use crate::places::Places;
 use band_lanes::four::rows::Rows;
 use band_lanes::four::step::LongStep;
+use predict_core::run::{PIECE, Run};
 use predict_core::settings::Settings;
 use sample_prediction::exponent::{exponent_at, places_alike};
 use sample_prediction::predictor::MOST_COMPONENTS;
@@ -23,35 +24,34 @@ use sample_prediction::predictor::MOST_COMPONENTS;
 /// `settings` are those of one of the bands, which have the same parameters (CCSDS 123.0-B-1, "Weight Update").
 pub(crate) fn follow_piece<const Q: usize>(
     settings: &Settings,
-    places: Places,
+    run: &Run,
     rows: &[Rows; MOST_COMPONENTS],
-    own: &[[i32; 4]; 64],
+    own: &[[i32; 4]; PIECE],
     weights: &mut [[i32; 4]; MOST_COMPONENTS],
-    parts: &mut [[i32; 4]; 64],
+    parts: &mut [[i32; 4]; PIECE],
 )
     requires few { Q ≤ 9 }
-    requires order { places.first ≤ places.count }
-    requires last { places.count ≤ 64 }
-    requires row { places.y < 65536 }
-    requires inside { places.x + places.count ≤ settings.now.columns }
-    requires later { 0 < places.y + (places.x + places.first) }
-    requires small { (i b : ℕ) → places.first ≤ i → i < places.count → b < 4 → AllWithin (2 ^ (settings.now.range.bits + 2)) (row_components (2 * Q) b rows.now i) }
+    requires run { IsRunOf settings.now.band run.now }
+    requires columns { run.now.image.shape.columns ≡ settings.now.columns }
+    requires small { (i b : ℕ) → run.now.first ≤ i → i < run.now.count → b < 4 → AllWithin (2 ^ (settings.now.range.bits + 2)) (row_components (2 * Q) b rows.now i) }
     requires weights_in { (b : ℕ) → b < 4 → AllWithin (2 ^ (settings.now.predictor.omega + 2)) (column_of (2 * Q) b weights.old) }
     ensures weights_in { (b : ℕ) → b < 4 → AllWithin (2 ^ (settings.now.predictor.omega + 2)) (column_of (2 * Q) b weights.new) }
-    ensures small { (i b : ℕ) → places.first ≤ i → i < places.count → b < 4 → unsigned_abs (place parts.new i b) ≤ 18 * 2 ^ 20 }
-    ensures followed { (b : ℕ) (s : Constants) (c : Image) → b < 4 → IsLongLane Q b s c places.y places.x places.count own.now rows.now → s.predictor ≡ settings.now.predictor
+    ensures small { (i b : ℕ) → run.now.first ≤ i → i < run.now.count → b < 4 → unsigned_abs (place parts.new i b) ≤ 18 * 2 ^ 20 }
+    ensures followed { (b : ℕ) (s : Constants) (c : Image) → b < 4 → IsLongLane Q b s c run.now.y run.now.x run.now.count own.now rows.now → s.predictor ≡ settings.now.predictor
         → s.range.kind ≡ settings.now.range.kind → s.columns ≡ settings.now.columns
-        → IsFollowed s c places.y places.x places.first (column_of (2 * Q) b weights.old) places.first (column_of (2 * Q) b weights.old) (numbers_of b parts.old)
-        → IsFollowed s c places.y places.x places.first (column_of (2 * Q) b weights.old) places.count (column_of (2 * Q) b weights.new) (numbers_of b parts.new) }
+        → IsFollowed s c run.now.y run.now.x run.now.first (column_of (2 * Q) b weights.old) run.now.first (column_of (2 * Q) b weights.old) (numbers_of b parts.old)
+        → IsFollowed s c run.now.y run.now.x run.now.first (column_of (2 * Q) b weights.old) run.now.count (column_of (2 * Q) b weights.new) (numbers_of b parts.new) }
 {
     let predictor = &settings.predictor;
     let columns = settings.columns;
     let bits = settings.range.bits;
-    let start = places.y as u64 * columns as u64 + places.x as u64;
-    let mut at = places.first;
-    while at < places.count {
+    run.prove_is_row();
+    let count = run.count();
+    let start = run.y() as u64 * columns as u64 + run.x() as u64;
+    let mut at = run.first();
+    while at < count {
         let t = start + at as u64;
-        let next = at + places_alike(predictor, columns, t, places.count - at);
+        let next = at + places_alike(predictor, columns, t, count - at);
         let step = LongStep::new(
             predictor.omega,
             bits,
@@ -67,15 +67,15 @@ pub(crate) fn follow_piece<const Q: usize>(
 fn follow_by<const Q: usize>(
     weights: &mut [[i32; 4]; MOST_COMPONENTS],
     rows: &[Rows; MOST_COMPONENTS],
-    own: &[[i32; 4]; 64],
-    parts: &mut [[i32; 4]; 64],
+    own: &[[i32; 4]; PIECE],
+    parts: &mut [[i32; 4]; PIECE],
     step: LongStep,
     first: usize,
     last: usize,
 )
     requires few { Q ≤ 9 }
     requires order { first ≤ last }
-    requires last { last ≤ 64 }
+    requires last { last ≤ PIECE }
     requires small { (i b : ℕ) → first ≤ i → i < last → b < 4 → AllWithin (2 ^ (step.bits + 2)) (row_components (2 * Q) b rows.now i) }
     requires weights_in { (b : ℕ) → b < 4 → AllWithin (2 ^ (step.omega + 2)) (column_of (2 * Q) b weights.old) }
     ensures weights_in { (b : ℕ) → b < 4 → AllWithin (2 ^ (step.omega + 2)) (column_of (2 * Q) b weights.new) }

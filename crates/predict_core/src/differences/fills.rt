@@ -6,15 +6,16 @@
 ghost use Rattle.std.specs.Prelude.{◌≡◌, ◌<◌, ◌≤◌, ℕ, pos, [], ◌∷◌, ◌++◌, slice_index_or, unsigned_abs, replicate};
 ghost use Rattle.sample_prediction.specs.Lines.{line_sum, line_difference, line_directions};
 
-use crate::differences::lines::{Lines, sum_above, sum_of_lines};
+use crate::differences::lines::{LINE, Lines, sum_above, sum_of_lines};
+use crate::run::PIECE;
 use sample_prediction::neighbourhood::difference_of;
 
 /// Writes the local sum of offsets and the central difference of each place.
-pub fn fill_own(column: bool, lines: &Lines, sums: &mut [i32; 64], own: &mut [i32; 64])
+pub fn fill_own(column: bool, lines: &Lines, sums: &mut [i32; PIECE], own: &mut [i32; PIECE])
     ensures sums { (i : ℕ) → i < 64 → slice_index_or sums.new i (pos 0) ≡ pos (line_sum column lines.now.current lines.now.above i) }
     ensures own { (i : ℕ) → i < 64 → slice_index_or own.new i (pos 0) ≡ line_difference column lines.now.current lines.now.above i }
 {
-    for i in 0..64usize {
+    for i in 0..PIECE {
         let sum = sum_of_lines(column, &lines.current, &lines.above, i);
         sums[i] = sum as i32;
         own[i] = difference_of(lines.current[i + 1], sum);
@@ -28,13 +29,13 @@ pub(crate) fn fill_four(
     second: &Lines,
     third: &Lines,
     fourth: &Lines,
-    out: &mut [[i32; 4]; 64],
+    out: &mut [[i32; 4]; PIECE],
 )
-    ensures { (i : ℕ) → i < 64 → slice_index_or out.new i [] ≡ line_difference column first.now.current first.now.above i ∷ line_difference column
+    ensures { (i : ℕ) → i < PIECE → slice_index_or out.new i [] ≡ line_difference column first.now.current first.now.above i ∷ line_difference column
         second.now.current second.now.above i ∷ line_difference column third.now.current third.now.above i ∷ line_difference column fourth.now.current
         fourth.now.above i ∷ [] }
 {
-    for i in 0..64usize {
+    for i in 0..PIECE {
         out[i] = [
             central_at(column, first, i),
             central_at(column, second, i),
@@ -45,11 +46,11 @@ pub(crate) fn fill_four(
 }
 
 /// Writes the central differences of two bands at each place, followed by zeros.
-pub(crate) fn fill_two(column: bool, first: &Lines, second: &Lines, out: &mut [[i32; 4]; 64])
-    ensures { (i : ℕ) → i < 64 → slice_index_or out.new i [] ≡ line_difference column first.now.current first.now.above i ∷ line_difference column
+pub(crate) fn fill_two(column: bool, first: &Lines, second: &Lines, out: &mut [[i32; 4]; PIECE])
+    ensures { (i : ℕ) → i < PIECE → slice_index_or out.new i [] ≡ line_difference column first.now.current first.now.above i ∷ line_difference column
         second.now.current second.now.above i ∷ pos 0 ∷ pos 0 ∷ [] }
 {
-    for i in 0..64usize {
+    for i in 0..PIECE {
         out[i] = [
             central_at(column, first, i),
             central_at(column, second, i),
@@ -65,16 +66,16 @@ pub(crate) fn fill_directions(
     column: bool,
     lines: &Lines,
     below: &Lines,
-    sums: &mut [i32; 64],
-    own: &mut [i32; 64],
-    out: &mut [[i32; 4]; 64],
+    sums: &mut [i32; PIECE],
+    own: &mut [i32; PIECE],
+    out: &mut [[i32; 4]; PIECE],
 )
-    ensures sums { (i : ℕ) → i < 64 → slice_index_or sums.new i (pos 0) ≡ pos (line_sum column lines.now.current lines.now.above i) }
-    ensures own { (i : ℕ) → i < 64 → slice_index_or own.new i (pos 0) ≡ line_difference column lines.now.current lines.now.above i }
-    ensures quads { (i : ℕ) → i < 64 → slice_index_or out.new i [] ≡ line_directions column lines.now.current lines.now.above i ++ line_difference column
+    ensures sums { (i : ℕ) → i < PIECE → slice_index_or sums.new i (pos 0) ≡ pos (line_sum column lines.now.current lines.now.above i) }
+    ensures own { (i : ℕ) → i < PIECE → slice_index_or own.new i (pos 0) ≡ line_difference column lines.now.current lines.now.above i }
+    ensures quads { (i : ℕ) → i < PIECE → slice_index_or out.new i [] ≡ line_directions column lines.now.current lines.now.above i ++ line_difference column
         below.now.current below.now.above i ∷ [] }
 {
-    for i in 0..64usize {
+    for i in 0..PIECE {
         let sum = sum_of_lines(column, &lines.current, &lines.above, i);
         sums[i] = sum as i32;
         own[i] = difference_of(lines.current[i + 1], sum);
@@ -89,16 +90,16 @@ pub(crate) fn fill_directions(
 /// each offset to the west were 0.
 pub(crate) fn fill_open_directions(
     column: bool,
-    above: &[u16; 66],
+    above: &[u16; LINE],
     below: &Lines,
-    sums: &mut [i32; 64],
-    out: &mut [[i32; 4]; 64],
+    sums: &mut [i32; PIECE],
+    out: &mut [[i32; 4]; PIECE],
 )
-    ensures sums { (i : ℕ) → i < 64 → slice_index_or sums.new i (pos 0) ≡ pos (line_sum column (replicate 66 0) above.now i) }
-    ensures quads { (i : ℕ) → i < 64 → slice_index_or out.new i [] ≡ line_directions column (replicate 66 0) above.now i ++ line_difference column
+    ensures sums { (i : ℕ) → i < PIECE → slice_index_or sums.new i (pos 0) ≡ pos (line_sum column (replicate LINE 0) above.now i) }
+    ensures quads { (i : ℕ) → i < PIECE → slice_index_or out.new i [] ≡ line_directions column (replicate LINE 0) above.now i ++ line_difference column
         below.now.current below.now.above i ∷ [] }
 {
-    for i in 0..64usize {
+    for i in 0..PIECE {
         let sum = sum_above(column, above, i);
         sums[i] = sum as i32;
         let north = difference_of(above[i + 1], sum);
@@ -109,10 +110,10 @@ pub(crate) fn fill_open_directions(
 }
 
 /// Writes the local sum of offsets of each place as if the offset to the west were 0.
-pub(crate) fn fill_open_sums(column: bool, above: &[u16; 66], sums: &mut [i32; 64])
-    ensures { (i : ℕ) → i < 64 → slice_index_or sums.new i (pos 0) ≡ pos (line_sum column (replicate 66 0) above.now i) }
+pub(crate) fn fill_open_sums(column: bool, above: &[u16; LINE], sums: &mut [i32; PIECE])
+    ensures { (i : ℕ) → i < PIECE → slice_index_or sums.new i (pos 0) ≡ pos (line_sum column (replicate LINE 0) above.now i) }
 {
-    for i in 0..64usize {
+    for i in 0..PIECE {
         sums[i] = sum_above(column, above, i) as i32;
     }
 }
@@ -120,7 +121,7 @@ pub(crate) fn fill_open_sums(column: bool, above: &[u16; 66], sums: &mut [i32; 6
 /// The central difference of place `i`.
 #[inline(always)]
 fn central_at(column: bool, lines: &Lines, i: usize) -> i32
-    requires { i < 64 }
+    requires { i < PIECE }
     ensures value { result ≡ line_difference column lines.now.current lines.now.above i }
     ensures bound { unsigned_abs result ≤ 262144 }
 {

@@ -5,16 +5,19 @@
 
 ghost use Rattle.std.specs.Prelude.{◌≡◌, ◌+◌, ◌-◌, ◌*◌, ◌<◌, ◌≤◌, ℕ, false, ◌||◌, ◌==◌, pos, length, replicate, slice_index, slice_index_or};
 ghost use Rattle.sample_prediction.specs.Lines.{bordered, bordered_above, line_sum, AreLines, AreBandLines};
-ghost use Rattle.cube_core.specs.Image.{IsPlace};
+ghost use Rattle.predict_core.specs.ImageRuns.{IsRunOf};
 
+use crate::run::{PIECE, Run};
 use sample_prediction::predictor::Predictor;
-use sample_prediction::rows::Rows;
+
+/// The length of a line: a piece, with one place more on each side.
+pub const LINE: usize = PIECE + 2;
 
 /// The offsets of a run in its own row, `current`, and in the row `above` it, each with one place more on each side.
 #[derive(Clone, Copy)]
 pub struct Lines {
-    pub current: [u16; 66],
-    pub above: [u16; 66],
+    pub current: [u16; LINE],
+    pub above: [u16; LINE],
 }
 
 impl Lines {
@@ -24,42 +27,19 @@ impl Lines {
         ensures above { result.above ≡ replicate 66 0 }
     {
         Lines {
-            current: [0; 66],
-            above: [0; 66],
+            current: [0; LINE],
+            above: [0; LINE],
         }
     }
 }
 
-/// Writes the lines of `count` places of band `z` from row `y`, column `x` on.
-pub fn fill_band_lines(
-    predictor: &Predictor,
-    rows: &Rows,
-    z: u32,
-    y: u32,
-    x: u32,
-    count: usize,
-    lines: &mut Lines,
-)
-    requires row { rows.now.y ≡ y }
-    requires place { IsPlace rows.now.image.shape z y x }
-    requires some { 1 ≤ count }
-    requires few { count ≤ 64 }
-    requires inside { x + count ≤ rows.now.image.shape.columns }
-    requires wide { predictor.now.column ≡ false → 2 ≤ rows.now.image.shape.columns }
-    ensures { AreBandLines predictor.now rows.now.image z y x count lines.new.current lines.new.above }
+/// Writes the lines of a run of band `z`.
+pub fn fill_run_lines(predictor: &Predictor, run: &Run, z: u32, lines: &mut Lines)
+    requires run { IsRunOf z run.now }
+    requires wide { predictor.now.column ≡ false → 2 ≤ run.now.image.shape.columns }
+    ensures { AreBandLines predictor.now run.now.image z run.now.y run.now.x run.now.count lines.new.current lines.new.above }
 {
-    let row = rows.row(z);
-    let above = rows.row_above(z);
-    fill_lines(
-        predictor.column,
-        y,
-        row,
-        above,
-        x as usize,
-        count,
-        &mut lines.current,
-        &mut lines.above,
-    );
+    fill_lines(predictor.column, run, run.row(z), run.row_above(z), lines);
 }
 
 /// Writes the neighbours of `count` places from column `x` on that are in the row above them.
@@ -68,9 +48,9 @@ pub(crate) fn fill_line_above(
     above: &[u16],
     x: usize,
     count: usize,
-    upper: &mut [u16; 66],
+    upper: &mut [u16; LINE],
 )
-    requires few { count ≤ 64 }
+    requires few { count ≤ PIECE }
     requires inside { x + count ≤ length above.now }
     requires some { 1 ≤ length above.now }
     requires wide { column ≡ false → 2 ≤ length above.now }
@@ -83,47 +63,39 @@ pub(crate) fn fill_line_above(
     }
 }
 
-/// Writes the neighbours of `count` places of a row from column `x` on: to `current` those in the row itself,
-/// and to `upper` those in the row above.
+/// Writes the neighbours of a run: those in its row, and those in the row above.
 ///
 /// If a place has no such neighbour, a substitute makes the sum of all four the local sum. In the first row, where the
 /// local sum is that of the western neighbour alone, the western neighbours are written above their places
 /// (CCSDS 123.0-B-1, "Local Sums").
-fn fill_lines(
-    column: bool,
-    y: u32,
-    row: &[u16],
-    above: &[u16],
-    x: usize,
-    count: usize,
-    current: &mut [u16; 66],
-    upper: &mut [u16; 66],
-)
-    requires some { 1 ≤ count }
-    requires few { count ≤ 64 }
-    requires inside { x + count ≤ length row.now }
+fn fill_lines(column: bool, run: &Run, row: &[u16], above: &[u16], lines: &mut Lines)
+    requires some { 1 ≤ run.now.count }
+    requires few { run.now.count ≤ PIECE }
+    requires inside { run.now.x + run.now.count ≤ length row.now }
     requires same { length above.now ≡ length row.now }
     requires wide { column ≡ false → 2 ≤ length row.now }
-    ensures { AreLines column y row.now above.now x count current.new upper.new }
+    ensures { AreLines column run.now.y row.now above.now run.now.x run.now.count lines.new.current lines.new.above }
 {
+    let x = run.x() as usize;
+    let count = run.count();
     let north = above[0];
-    fill_line(row, x, count, north, north, current);
-    if y == 0 {
-        upper[1..count + 1].copy_from_slice(&current[..count]);
+    fill_line(row, x, count, north, north, &mut lines.current);
+    if run.y() == 0 {
+        lines.above[1..count + 1].copy_from_slice(&lines.current[..count]);
     } else {
-        fill_line_above(column, above, x, count, upper);
+        fill_line_above(column, above, x, count, &mut lines.above);
     }
 }
 
 /// Writes `count` offsets of a row from column `x` on, and one more on each side.
 ///
 /// `before` and `after` are the substitutes where the row ends.
-fn fill_line(row: &[u16], x: usize, count: usize, before: u16, after: u16, line: &mut [u16; 66])
-    requires few { count ≤ 64 }
+fn fill_line(row: &[u16], x: usize, count: usize, before: u16, after: u16, line: &mut [u16; LINE])
+    requires few { count ≤ PIECE }
     requires inside { x + count ≤ length row.now }
     ensures { (k : ℕ) → k < count + 2 → slice_index line.new k ≡ slice_index (bordered before row.now after) (x + k) }
 {
-    if 1 <= x && x + 65 <= row.len() {
+    if 1 <= x && x + PIECE + 1 <= row.len() {
         copy_line(row, x, line);
     } else {
         copy_places(row, x, count, line);
@@ -136,25 +108,25 @@ fn fill_line(row: &[u16], x: usize, count: usize, before: u16, after: u16, line:
 ///
 /// A copy of this fixed length is a few vector moves instead of a call.
 #[inline(always)]
-fn copy_line(row: &[u16], x: usize, line: &mut [u16; 66])
+fn copy_line(row: &[u16], x: usize, line: &mut [u16; LINE])
     requires begun { 1 ≤ x }
-    requires inside { x + 65 ≤ length row.now }
-    ensures { (k : ℕ) → k < 66 → slice_index line.new k ≡ slice_index row.now (x + k - 1) }
+    requires inside { x + PIECE + 1 ≤ length row.now }
+    ensures { (k : ℕ) → k < LINE → slice_index line.new k ≡ slice_index row.now (x + k - 1) }
 {
-    line[..64].copy_from_slice(&row[x - 1..x + 63]);
-    line[64] = row[x + 63];
-    line[65] = row[x + 64];
+    line[..PIECE].copy_from_slice(&row[x - 1..x + PIECE - 1]);
+    line[PIECE] = row[x + PIECE - 1];
+    line[PIECE + 1] = row[x + PIECE];
 }
 
 /// Writes `count` offsets of a row from column `x` on, after the first element of a line.
-fn copy_places(row: &[u16], x: usize, count: usize, line: &mut [u16; 66])
-    requires few { count ≤ 64 }
+fn copy_places(row: &[u16], x: usize, count: usize, line: &mut [u16; LINE])
+    requires few { count ≤ PIECE }
     requires inside { x + count ≤ length row.now }
     ensures { (k : ℕ) → k < count → slice_index line.new (k + 1) ≡ slice_index row.now (x + k) }
 {
-    if count == 64 {
+    if count == PIECE {
         // A copy of this fixed length is a few vector moves instead of a call.
-        line[1..65].copy_from_slice(&row[x..x + 64]);
+        line[1..PIECE + 1].copy_from_slice(&row[x..x + PIECE]);
     } else {
         line[1..count + 1].copy_from_slice(&row[x..x + count]);
     }
@@ -184,8 +156,13 @@ pub fn is_column(column: bool, y: u32) -> bool
 
 /// Returns four times an average of the neighbours of place `i`.
 #[inline(always)]
-pub(crate) fn sum_of_lines(column: bool, current: &[u16; 66], upper: &[u16; 66], i: usize) -> u32
-    requires { i < 64 }
+pub(crate) fn sum_of_lines(
+    column: bool,
+    current: &[u16; LINE],
+    upper: &[u16; LINE],
+    i: usize,
+) -> u32
+    requires { i < PIECE }
     ensures value { result ≡ line_sum column current.now upper.now i }
     ensures bound { result ≤ 262140 }
 {
@@ -198,9 +175,9 @@ pub(crate) fn sum_of_lines(column: bool, current: &[u16; 66], upper: &[u16; 66],
 
 /// The same from the line above alone, as if the offset to the west were 0.
 #[inline(always)]
-pub(crate) fn sum_above(column: bool, above: &[u16; 66], i: usize) -> u32
-    requires { i < 64 }
-    ensures value { result ≡ line_sum column (replicate 66 0) above.now i }
+pub(crate) fn sum_above(column: bool, above: &[u16; LINE], i: usize) -> u32
+    requires { i < PIECE }
+    ensures value { result ≡ line_sum column (replicate LINE 0) above.now i }
     ensures bound { result ≤ 262140 }
 {
     if column {
@@ -211,8 +188,8 @@ pub(crate) fn sum_above(column: bool, above: &[u16; 66], i: usize) -> u32
 }
 
 /// Writes zeros into a line.
-pub fn clear_line(line: &mut [i16; 64])
+pub fn clear_line(line: &mut [i16; PIECE])
     ensures { (i : ℕ) → i < 64 → slice_index_or line.new i (pos 0) ≡ pos 0 }
 {
-    *line = [0; 64];
+    *line = [0; PIECE];
 }

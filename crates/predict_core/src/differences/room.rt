@@ -6,6 +6,7 @@ ghost use Rattle.std.specs.Prelude.{◌≡◌, ◌+◌, ◌-◌, ◌<◌, ◌≤
 ghost use Rattle.cube_core.specs.Image.{IsPlace};
 ghost use Rattle.sample_prediction.specs.Differences.{directional_differences};
 ghost use Rattle.sample_prediction.specs.Lines.{line_sum, line_difference, AreBandLines};
+ghost use Rattle.predict_core.specs.ImageRuns.{IsRunOf};
 ghost use Rattle.predict_core.specs.Rooms.{IsRoom, components_at, quads_of, lower_differences};
 ghost use Rattle.predict_core.specs.OpenPart.{IsOpenPart};
 
@@ -13,7 +14,8 @@ use crate::differences::below::{fill_below, fill_spectral};
 use crate::differences::fills::{
     fill_directions, fill_four, fill_open_directions, fill_open_sums, fill_own,
 };
-use crate::differences::lines::{Lines, fill_band_lines, fill_line_above, is_column};
+use crate::differences::lines::{LINE, Lines, fill_line_above, fill_run_lines, is_column};
+use crate::run::{PIECE, Run};
 use crate::settings::Settings;
 use cube_core::cube::Cube;
 use sample_prediction::rows::Rows;
@@ -21,52 +23,36 @@ use sample_prediction::rows::Rows;
 /// Four components at each place of a run.
 #[derive(Clone, Copy)]
 pub(crate) struct Quad {
-    pub places: [[i32; 4]; 64],
+    pub places: [[i32; 4]; PIECE],
 }
 
-/// Writes the local sums of offsets, the central differences and the components of `count` places from row `y`,
-/// column `x` on.
+/// Writes the local sums of offsets, the central differences and the components of a run.
 ///
 /// Component k of a place is in quad k / 4, in lane k % 4; there are as many quads as are needed, or more. For
 /// the first place of a band nothing useful is written (CCSDS 123.0-B-1, "Local Sums", "Local Differences").
 pub(crate) fn fill_run<const Q: usize>(
     settings: &Settings,
-    rows: &Rows,
-    y: u32,
-    x: u32,
-    count: usize,
-    sums: &mut [i32; 64],
-    own: &mut [i32; 64],
+    run: &Run,
+    sums: &mut [i32; PIECE],
+    own: &mut [i32; PIECE],
     quads: &mut [Quad; Q],
 )
-    requires row { rows.now.y ≡ y }
-    requires place { IsPlace rows.now.image.shape settings.now.band y x }
-    requires columns { rows.now.image.shape.columns ≡ settings.now.columns }
-    requires some { 1 ≤ count }
-    requires few { count ≤ 64 }
-    requires inside { x + count ≤ rows.now.image.shape.columns }
+    requires run { IsRunOf settings.now.band run.now }
+    requires columns { run.now.image.shape.columns ≡ settings.now.columns }
     requires enough { quads_of settings.now.count ≤ Q }
-    ensures { IsRoom settings.now.predictor rows.now.image settings.now.band y x count settings.now.count sums.new own.new quads.new }
+    ensures { IsRoom settings.now.predictor run.now.image settings.now.band run.now.y run.now.x run.now.count settings.now.count sums.new own.new quads.new }
 {
-    rows.prove_is_row();
+    run.prove_is_row();
     let mut lines = Lines::empty();
-    fill_band_lines(
-        &settings.predictor,
-        rows,
-        settings.band,
-        y,
-        x,
-        count,
-        &mut lines,
-    );
+    fill_run_lines(&settings.predictor, run, settings.band, &mut lines);
     if settings.predictor.reduced {
-        let column = is_column(settings.predictor.column, y);
+        let column = is_column(settings.predictor.column, run.y());
         fill_own(column, &lines, sums, own);
-        fill_spectral::<Q>(settings, rows, y, x, count, 0, 1, quads);
+        fill_spectral::<Q>(settings, run, 0, 1, quads);
     } else {
         let first = &mut quads[0];
-        fill_first(settings, rows, y, x, count, &lines, sums, own, first);
-        fill_spectral::<Q>(settings, rows, y, x, count, 1, 2, quads);
+        fill_first(settings, run, &lines, sums, own, first);
+        fill_spectral::<Q>(settings, run, 1, 2, quads);
     }
 }
 
@@ -80,41 +66,42 @@ pub(crate) fn fill_open_part<const Q: usize>(
     y: u32,
     x: u32,
     count: usize,
-    sums: &mut [i32; 64],
+    sums: &mut [i32; PIECE],
     quads: &mut [Quad; Q],
 )
     requires place { IsPlace cube.now.shape settings.now.band y x }
     requires columns { cube.now.shape.columns ≡ settings.now.columns }
     requires later { 0 < y }
     requires some { 1 ≤ count }
-    requires few { count ≤ 64 }
+    requires few { count ≤ PIECE }
     requires inside { x + count ≤ cube.now.shape.columns }
     requires enough { quads_of settings.now.count ≤ Q }
     ensures { (i : ℕ) → i < count → IsOpenPart settings.now.predictor cube.now settings.now.band y (x + i) settings.now.count
         (slice_index_or sums.new i (pos 0)) (components_at (quads_of settings.now.count) quads.new i) }
 {
     let column = settings.predictor.column;
-    let mut line = [0u16; 66];
+    let mut line = [0u16; LINE];
     let rows = Rows::of(cube, y);
-    let above = rows.row_above(settings.band);
+    let run = Run::new(&rows, x, count);
+    let above = run.row_above(settings.band);
     fill_line_above(column, above, x as usize, count, &mut line);
     if settings.predictor.reduced {
         fill_open_sums(column, &line, sums);
-        fill_spectral::<Q>(settings, &rows, y, x, count, 0, 1, quads);
+        fill_spectral::<Q>(settings, &run, 0, 1, quads);
     } else {
         let mut below = Lines::empty();
-        fill_below(settings, &rows, y, x, count, 1, &mut below);
+        fill_below(settings, &run, 1, &mut below);
         let first = &mut quads[0].places;
         fill_open_directions(column, &line, &below, sums, first);
         if x == 0 {
             put_north_first(first);
         }
-        fill_spectral::<Q>(settings, &rows, y, x, count, 1, 2, quads);
+        fill_spectral::<Q>(settings, &run, 1, 2, quads);
     }
 }
 
 /// Replaces the north-western difference of the first place by the northern one.
-fn put_north_first(out: &mut [[i32; 4]; 64])
+fn put_north_first(out: &mut [[i32; 4]; PIECE])
     ensures first { (north west north_west below : ℤ) → slice_index_or out.old 0 [] ≡ north ∷ west ∷ north_west ∷ below ∷ []
         → slice_index_or out.new 0 [] ≡ north ∷ west ∷ north ∷ below ∷ [] }
     ensures others { (k : ℕ) → 0 < k → slice_index_or out.new k [] ≡ slice_index_or out.old k [] }
@@ -127,32 +114,25 @@ fn put_north_first(out: &mut [[i32; 4]; 64])
 /// band below.
 fn fill_first(
     settings: &Settings,
-    rows: &Rows,
-    y: u32,
-    x: u32,
-    count: usize,
+    run: &Run,
     lines: &Lines,
-    sums: &mut [i32; 64],
-    own: &mut [i32; 64],
+    sums: &mut [i32; PIECE],
+    own: &mut [i32; PIECE],
     quad: &mut Quad,
 )
-    requires row { rows.now.y ≡ y }
-    requires place { IsPlace rows.now.image.shape settings.now.band y x }
-    requires columns { rows.now.image.shape.columns ≡ settings.now.columns }
-    requires some { 1 ≤ count }
-    requires few { count ≤ 64 }
-    requires inside { x + count ≤ rows.now.image.shape.columns }
-    requires lines { AreBandLines settings.now.predictor rows.now.image settings.now.band y x count lines.now.current lines.now.above }
-    ensures sums { (i : ℕ) → i < 64
-        → slice_index_or sums.new i (pos 0) ≡ pos (line_sum (settings.now.predictor.column || y == 0) lines.now.current lines.now.above i) }
-    ensures own { (i : ℕ) → i < 64 → slice_index_or own.new i (pos 0) ≡ line_difference (settings.now.predictor.column || y == 0) lines.now.current
+    requires run { IsRunOf settings.now.band run.now }
+    requires columns { run.now.image.shape.columns ≡ settings.now.columns }
+    requires lines { AreBandLines settings.now.predictor run.now.image settings.now.band run.now.y run.now.x run.now.count lines.now.current lines.now.above }
+    ensures sums { (i : ℕ) → i < PIECE
+        → slice_index_or sums.new i (pos 0) ≡ pos (line_sum (settings.now.predictor.column || run.now.y == 0) lines.now.current lines.now.above i) }
+    ensures own { (i : ℕ) → i < PIECE → slice_index_or own.new i (pos 0) ≡ line_difference (settings.now.predictor.column || run.now.y == 0) lines.now.current
         lines.now.above i }
-    ensures quad { (i : ℕ) → i < count → 0 < y + (x + i) → slice_index_or quad.new.places i [] ≡ directional_differences settings.now.predictor rows.now.image
-        settings.now.band y (x + i) ++ lower_differences settings.now.predictor rows.now.image settings.now.band y (x + i) 1 1 }
+    ensures quad { (i : ℕ) → i < run.now.count → 0 < run.now.y + (run.now.x + i) → slice_index_or quad.new.places i [] ≡ directional_differences settings.now.predictor run.now.image
+        settings.now.band run.now.y (run.now.x + i) ++ lower_differences settings.now.predictor run.now.image settings.now.band run.now.y (run.now.x + i) 1 1 }
 {
     let mut below = Lines::empty();
-    fill_below(settings, rows, y, x, count, 1, &mut below);
-    if y == 0 {
+    fill_below(settings, run, 1, &mut below);
+    if run.y() == 0 {
         let none = Lines::empty();
         fill_own(true, lines, sums, own);
         fill_four(true, &none, &none, &none, &below, &mut quad.places);
@@ -166,13 +146,13 @@ fn fill_first(
         own,
         &mut quad.places,
     );
-    if x == 0 {
+    if run.x() == 0 {
         repeat_north(&mut quad.places);
     }
 }
 
 /// Replaces the other two directional differences of the first place by the northern one.
-fn repeat_north(out: &mut [[i32; 4]; 64])
+fn repeat_north(out: &mut [[i32; 4]; PIECE])
     ensures first { (north west north_west below : ℤ) → slice_index_or out.old 0 [] ≡ north ∷ west ∷ north_west ∷ below ∷ []
         → slice_index_or out.new 0 [] ≡ north ∷ north ∷ north ∷ below ∷ [] }
     ensures others { (k : ℕ) → 0 < k → slice_index_or out.new k [] ≡ slice_index_or out.old k [] }

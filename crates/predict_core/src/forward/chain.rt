@@ -18,10 +18,10 @@ ghost use Rattle.sample_prediction.specs.Chain.{scaled_by_difference};
 ghost use Rattle.predict_core.specs.RunChains.{CanFollow, AreStepsThere, IsFollowed};
 
 use crate::differences::room::Quad;
+use crate::run::{PIECE, Run};
 use crate::settings::Settings;
 use sample_prediction::prediction::predicted_difference;
 use sample_prediction::predictor::MOST_COMPONENTS;
-use sample_prediction::rows::Rows;
 use sample_prediction::weights::{step_shift, update_by};
 
 /// The parameters of the weight update that stay the same at places with one exponent.
@@ -81,7 +81,7 @@ pub(crate) fn sign_mask_of_error(own: i32, predicted: i32) -> i32
 #[inline(always)]
 pub(crate) fn differences_at<const Q: usize>(quads: &[Quad; Q], i: usize) -> [i32; MOST_COMPONENTS]
     requires few { Q ≤ 5 }
-    requires place { i < 64 }
+    requires place { i < PIECE }
     ensures { result ≡ take 18 (components_at Q quads.now i ++ replicate 18 (pos 0)) }
 {
     let first = quad_at::<Q>(quads, 0, i);
@@ -99,7 +99,7 @@ pub(crate) fn differences_at<const Q: usize>(quads: &[Quad; Q], i: usize) -> [i3
 /// Returns the components of place `i` in quad `k`, which are zeros after the first `Q` quads.
 #[inline(always)]
 fn quad_at<const Q: usize>(quads: &[Quad; Q], k: usize, i: usize) -> [i32; 4]
-    requires place { i < 64 }
+    requires place { i < PIECE }
     ensures value { result ≡ quad_or_zeros Q quads.now k i }
     ensures long { length result ≡ 4 }
 {
@@ -119,16 +119,15 @@ fn four_of(components: &[i32; 4]) -> [i32; 4]
     *components
 }
 
-/// Returns the predicted central difference at row `y`, column `x` of an image, and updates the weights.
+/// Returns the predicted central difference of place `i` of a run, and updates the weights.
 ///
 /// `sum` is the local sum of the offsets there. The scaled prediction follows from the difference and the local sum alone. The
 /// place is not the first of its band.
 #[inline(always)]
 fn follow_at<const N: usize, const WRAPS: bool>(
     settings: &Settings,
-    rows: &Rows,
-    y: u32,
-    x: u32,
+    run: &Run,
+    i: usize,
     steps: Steps,
     sum: i32,
     own: i32,
@@ -138,27 +137,27 @@ fn follow_at<const N: usize, const WRAPS: bool>(
     requires few { N ≤ 18 }
     requires enough { settings.now.count ≤ N }
     requires register { WRAPS ≡ false → 46 ≤ settings.now.predictor.register }
-    requires place { IsPlace rows.now.image.shape settings.now.band y x }
-    requires columns { rows.now.image.shape.columns ≡ settings.now.columns }
-    requires kind { rows.now.image.kind ≡ settings.now.range.kind }
-    requires later { 0 < y + x }
+    requires place { IsPlace run.now.image.shape settings.now.band run.now.y (run.now.x + i) }
+    requires columns { run.now.image.shape.columns ≡ settings.now.columns }
+    requires kind { run.now.image.kind ≡ settings.now.range.kind }
+    requires later { 0 < run.now.y + (run.now.x + i) }
     requires omega { steps.omega ≡ settings.now.predictor.omega }
     requires bits { steps.bits ≡ settings.now.range.bits }
-    requires exponent { steps.exponent ≡ step_exponent settings.now.predictor rows.now.image.shape.columns rows.now.image.kind.bits (y * rows.now.image.shape.columns + x) }
-    requires sum_is { pos 4 *ℤ smin rows.now.image.kind +ℤ sum ≡ local_sum settings.now.predictor rows.now.image settings.now.band y x }
+    requires exponent { steps.exponent ≡ step_exponent settings.now.predictor run.now.image.shape.columns run.now.image.kind.bits (run.now.y * run.now.image.shape.columns + (run.now.x + i)) }
+    requires sum_is { pos 4 *ℤ smin run.now.image.kind +ℤ sum ≡ local_sum settings.now.predictor run.now.image settings.now.band run.now.y (run.now.x + i) }
     requires sum_in { (pos 0 ≤ℤ sum) × (sum ≤ℤ pos 262140) }
-    requires own_is { own ≡ central_difference settings.now.predictor rows.now.image settings.now.band y x }
+    requires own_is { own ≡ central_difference settings.now.predictor run.now.image settings.now.band run.now.y (run.now.x + i) }
     requires weights_in { AllWithin (2 ^ (steps.omega + 2)) weights.old }
-    requires differences_are { differences.now ≡ difference_vector settings.now.predictor rows.now.image settings.now.band y x ++ replicate
+    requires differences_are { differences.now ≡ difference_vector settings.now.predictor run.now.image settings.now.band run.now.y (run.now.x + i) ++ replicate
         (18 - settings.now.count) (pos 0) }
-    ensures scaled { scaled_there settings.now.predictor rows.now.image settings.now.band y x (take settings.now.count weights.old)
-        ≡ scaled_by_difference rows.now.image.kind result (local_sum settings.now.predictor rows.now.image settings.now.band y x) }
+    ensures scaled { scaled_there settings.now.predictor run.now.image settings.now.band run.now.y (run.now.x + i) (take settings.now.count weights.old)
+        ≡ scaled_by_difference run.now.image.kind result (local_sum settings.now.predictor run.now.image settings.now.band run.now.y (run.now.x + i)) }
     ensures small { unsigned_abs result ≤ 18 * 2 ^ 20 }
-    ensures weights { take settings.now.count weights.new ≡ next_weights settings.now.predictor rows.now.image settings.now.band (y * rows.now.image.shape.columns + x)
+    ensures weights { take settings.now.count weights.new ≡ next_weights settings.now.predictor run.now.image settings.now.band (run.now.y * run.now.image.shape.columns + (run.now.x + i))
         (take settings.now.count weights.old) }
     ensures bound { AllWithin (2 ^ (steps.omega + 2)) weights.new }
 {
-    rows.prove_is_row();
+    run.prove_is_row();
     let predicted = predicted_difference::<N, WRAPS>(
         &settings.predictor,
         &settings.range,
@@ -175,41 +174,39 @@ fn follow_at<const N: usize, const WRAPS: bool>(
 #[derive(Clone, Copy)]
 pub(crate) struct KnownRun<'a, const Q: usize> {
     pub settings: &'a Settings,
-    pub sums: &'a [i32; 64],
-    pub own: &'a [i32; 64],
+    pub sums: &'a [i32; PIECE],
+    pub own: &'a [i32; PIECE],
     pub quads: &'a [Quad; Q],
 }
 
 /// Writes the predicted central difference of place `i` of a run, and updates the weights.
 #[inline(always)]
 fn follow_place<const Q: usize, const N: usize, const WRAPS: bool>(
-    rows: &Rows,
-    y: u32,
-    x: u32,
+    run: &Run,
     i: usize,
     steps: Steps,
-    run: KnownRun<Q>,
-    parts: &mut [i32; 64],
+    known: KnownRun<Q>,
+    parts: &mut [i32; PIECE],
     weights: &mut [i32; MOST_COMPONENTS],
 )
-    requires run { CanFollow Q N WRAPS run.settings.now rows.now.image y x (i + 1) run.sums.now run.own.now run.quads.now }
-    requires later { 0 < y + (x + i) }
-    requires steps { AreStepsThere run.settings.now rows.now.image steps.omega steps.bits steps.exponent y (x + i) }
-    requires weights_in { AllWithin (2 ^ (run.settings.now.predictor.omega + 2)) weights.old }
-    ensures followed { (first : ℕ) (begun : List ℤ) → IsFollowed run.entry.settings.now rows.now.image y x first begun i weights.old parts.old
-        → IsFollowed run.entry.settings.now rows.now.image y x first begun (i + 1) weights.new parts.new }
-    ensures bound { AllWithin (2 ^ (run.entry.settings.now.predictor.omega + 2)) weights.new }
+    requires known { CanFollow Q N WRAPS known.settings.now run.now.image run.now.y run.now.x (i + 1) known.sums.now known.own.now known.quads.now }
+    requires later { 0 < run.now.y + (run.now.x + i) }
+    requires steps { AreStepsThere known.settings.now run.now.image steps.omega steps.bits steps.exponent run.now.y (run.now.x + i) }
+    requires weights_in { AllWithin (2 ^ (known.settings.now.predictor.omega + 2)) weights.old }
+    ensures followed { (first : ℕ) (begun : List ℤ)
+        → IsFollowed known.entry.settings.now run.now.image run.now.y run.now.x first begun i weights.old parts.old
+        → IsFollowed known.entry.settings.now run.now.image run.now.y run.now.x first begun (i + 1) weights.new parts.new }
+    ensures bound { AllWithin (2 ^ (known.entry.settings.now.predictor.omega + 2)) weights.new }
 {
-    rows.prove_is_row();
-    let differences = differences_at::<Q>(run.quads, i);
+    run.prove_is_row();
+    let differences = differences_at::<Q>(known.quads, i);
     parts[i] = follow_at::<N, WRAPS>(
-        run.settings,
-        rows,
-        y,
-        x + i as u32,
+        known.settings,
+        run,
+        i,
         steps,
-        run.sums[i],
-        run.own[i],
+        known.sums[i],
+        known.own[i],
         weights,
         &differences,
     );
@@ -220,8 +217,8 @@ fn follow_place<const Q: usize, const N: usize, const WRAPS: bool>(
 #[derive(Drop)]
 pub(crate) struct RunState {
     pub weights: [i32; MOST_COMPONENTS],
-    pub parts: [i32; 64],
-    pub residuals: [u16; 64],
+    pub parts: [i32; PIECE],
+    pub residuals: [u16; PIECE],
 }
 
 impl RunState {
@@ -231,8 +228,8 @@ impl RunState {
     {
         RunState {
             weights,
-            parts: [0; 64],
-            residuals: [0; 64],
+            parts: [0; PIECE],
+            residuals: [0; PIECE],
         }
     }
 }
@@ -242,27 +239,27 @@ impl RunState {
 /// The weights are kept in a copy of their own, so that the compiler can keep them in registers.
 #[inline(always)]
 pub(crate) fn follow_places<const Q: usize, const N: usize, const WRAPS: bool>(
-    rows: &Rows,
-    y: u32,
-    x: u32,
+    run: &Run,
     first: usize,
     last: usize,
     steps: Steps,
-    run: KnownRun<Q>,
+    known: KnownRun<Q>,
     state: &mut RunState,
 )
-    requires run { CanFollow Q N WRAPS run.settings.now rows.now.image y x last run.sums.now run.own.now run.quads.now }
+    requires known { CanFollow Q N WRAPS known.settings.now run.now.image run.now.y run.now.x last known.sums.now known.own.now known.quads.now }
     requires order { first ≤ last }
-    requires later { 0 < y + (x + first) }
-    requires steps { (i : ℕ) → first ≤ i → i < last → AreStepsThere run.settings.now rows.now.image steps.omega steps.bits steps.exponent y (x + i) }
-    requires weights_in { AllWithin (2 ^ (run.settings.now.predictor.omega + 2)) state.old.weights }
-    ensures followed { (start : ℕ) (begun : List ℤ) → IsFollowed run.entry.settings.now rows.now.image y x start begun first state.old.weights state.old.parts
-        → IsFollowed run.entry.settings.now rows.now.image y x start begun last state.new.weights state.new.parts }
-    ensures bound { AllWithin (2 ^ (run.entry.settings.now.predictor.omega + 2)) state.new.weights }
+    requires later { 0 < run.now.y + (run.now.x + first) }
+    requires steps { (i : ℕ) → first ≤ i → i < last
+        → AreStepsThere known.settings.now run.now.image steps.omega steps.bits steps.exponent run.now.y (run.now.x + i) }
+    requires weights_in { AllWithin (2 ^ (known.settings.now.predictor.omega + 2)) state.old.weights }
+    ensures followed { (start : ℕ) (begun : List ℤ)
+        → IsFollowed known.entry.settings.now run.now.image run.now.y run.now.x start begun first state.old.weights state.old.parts
+        → IsFollowed known.entry.settings.now run.now.image run.now.y run.now.x start begun last state.new.weights state.new.parts }
+    ensures bound { AllWithin (2 ^ (known.entry.settings.now.predictor.omega + 2)) state.new.weights }
 {
     let mut working = state.weights;
     for i in first..last {
-        follow_place::<Q, N, WRAPS>(rows, y, x, i, steps, run, &mut state.parts, &mut working);
+        follow_place::<Q, N, WRAPS>(run, i, steps, known, &mut state.parts, &mut working);
     }
     state.weights = working;
 }

@@ -4,6 +4,7 @@ ghost use Rattle.std.specs.Prelude.{◌≡◌, ◌<◌, ◌≤◌, take, length,
 ghost use Rattle.predict_core.specs.Following.{IsPieceNext, HoldsPiece};
 
 use crate::band::Band;
+use crate::run::PIECE;
 use sample_prediction::rows::Rows;
 
 impl Band {
@@ -16,7 +17,7 @@ impl Band {
         requires next { IsPieceNext self.old rows.now.image rows.now.y x count }
         ensures held { HoldsPiece rows.now.image count self.old self.new }
     {
-        let mut piece = [0; 64];
+        let mut piece = [0; PIECE];
         self.forward_run(rows, x, &mut piece[..count]);
         self.piece = piece;
     }

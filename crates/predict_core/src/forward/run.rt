@@ -9,6 +9,7 @@ ghost use Rattle.predict_core.specs.Following.{Follows, MovesBy};
 use crate::band::Band;
 use crate::forward::chain::RunState;
 use crate::forward::known_run::predict_run;
+use crate::run::{PIECE, Run};
 use sample_prediction::rows::Rows;
 
 /// The least run that is computed in arrays of 64 places. For a shorter run they cost more than its places do.
@@ -45,7 +46,8 @@ impl Band {
         self.next += count as u64;
         let settings = &self.settings;
         let mut state = RunState::new(self.weights);
-        predict_run(rows, y, x, count, settings, &mut state);
+        let run = Run::new(rows, x, count);
+        predict_run(&run, settings, &mut state);
         self.weights = state.weights;
         residuals.copy_from_slice(&state.residuals[..count]);
     }
@@ -56,7 +58,7 @@ impl Band {
         requires shape { rows.now.image.shape ≡ self.old.shape }
         requires kind { rows.now.image.kind ≡ self.old.kind }
         requires place { IsPlace rows.now.image.shape self.old.band y x }
-        requires few { length residuals.old ≤ 64 }
+        requires few { length residuals.old ≤ PIECE }
         requires inside { x + length residuals.old ≤ rows.now.image.shape.columns }
         requires next { self.old.t ≡ y * rows.now.image.shape.columns + x }
         ensures moved { MovesBy (length residuals.old) self.old self.new }

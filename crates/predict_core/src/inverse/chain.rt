@@ -28,6 +28,7 @@ use crate::differences::room::Quad;
 use crate::differences::west::{put_west, sum_with_west};
 use crate::forward::chain::differences_at;
 use crate::prediction::shift_at;
+use crate::run::PIECE;
 use crate::settings::Settings;
 use cube_core::cube::Cube;
 use sample_prediction::differences::west_of;
@@ -46,7 +47,7 @@ pub(crate) struct OpenRun<'a, const Q: usize> {
     pub settings: &'a Settings,
     pub y: u32,
     pub x: u32,
-    pub sums: &'a [i32; 64],
+    pub sums: &'a [i32; PIECE],
     pub quads: &'a [Quad; Q],
     pub weights: [i32; MOST_COMPONENTS],
     pub deltas: &'a [u16],
@@ -68,7 +69,7 @@ pub(crate) fn invert_places<const Q: usize, const N: usize, const WRAPS: bool>(
     requires place { IsPlace cube.shape run.settings.now.band run.y run.x }
     requires columns { cube.shape.columns ≡ run.settings.now.columns }
     requires kind { cube.kind ≡ run.settings.now.range.kind }
-    requires few { length run.deltas.now ≤ 64 }
+    requires few { length run.deltas.now ≤ PIECE }
     requires inside { run.x + length run.deltas.now ≤ cube.shape.columns }
     requires residuals_in { (i : ℕ) → i < length run.deltas.now → slice_index run.deltas.now i < 2 ^ cube.kind.bits }
     requires parts { (i : ℕ) → i < length run.deltas.now → IsOpenPart run.settings.now.predictor cube run.settings.now.band run.y (run.x + i)
@@ -107,13 +108,16 @@ pub(crate) fn invert_places<const Q: usize, const N: usize, const WRAPS: bool>(
         stretch = stretch_at(&settings, y, x, i, deltas.len(), stretch);
         let sum = sum_with_west(&settings, &cube, y, column, sums[i], west);
         let components = differences_at::<Q>(quads, i);
+        let place = OpenPlace {
+            y,
+            x: column,
+            sum,
+            west,
+        };
         let sample = sample_there::<N, WRAPS>(
             &settings,
             &cube,
-            y,
-            column,
-            sum,
-            west,
+            place,
             stretch.shift,
             &mut weights,
             &components,
@@ -182,18 +186,24 @@ fn next_stretch(settings: &Settings, y: u32, x: u32, i: usize, count: usize) -> 
     }
 }
 
-/// Returns the sample of a mapped residual at a place below the first row, and updates the weights.
-///
-/// `sum` is the local sum of the offsets there, `west` the offset to the west, and `shift` that of the steps.
-/// `components` are those of the place as if that offset were 0.
-#[inline(always)]
-fn sample_there<const N: usize, const WRAPS: bool>(
-    settings: &Settings,
-    cube: &Cube,
+/// A place below the first row whose sample isn't known yet: its row and column, the local sum of the offsets there, and the offset
+/// to the west.
+#[derive(Clone, Copy)]
+struct OpenPlace {
     y: u32,
     x: u32,
     sum: u32,
     west: u16,
+}
+
+/// Returns the sample of a mapped residual at a place below the first row, and updates the weights.
+///
+/// `shift` is that of the steps, and `components` are those of the place as if the offset to the west were 0.
+#[inline(always)]
+fn sample_there<const N: usize, const WRAPS: bool>(
+    settings: &Settings,
+    cube: &Cube,
+    place: OpenPlace,
     shift: StepShift,
     weights: &mut [i32; MOST_COMPONENTS],
     components: &[i32; MOST_COMPONENTS],
@@ -202,36 +212,43 @@ fn sample_there<const N: usize, const WRAPS: bool>(
     requires few { N ≤ 18 }
     requires enough { settings.now.count ≤ N }
     requires register { WRAPS ≡ false → 46 ≤ settings.now.predictor.register }
-    requires later { 0 < y }
-    requires place { IsPlace cube.now.shape settings.now.band y x }
+    requires later { 0 < place.y }
+    requires place { IsPlace cube.now.shape settings.now.band place.y place.x }
     requires columns { cube.now.shape.columns ≡ settings.now.columns }
     requires kind { cube.now.kind ≡ settings.now.range.kind }
-    requires sum_is { local_sum settings.now.predictor cube.now settings.now.band y x ≡ pos 4 *ℤ smin cube.now.kind +ℤ pos sum }
-    requires sum_in { sum ≤ 262140 }
-    requires west { IsWest cube.now settings.now.band y x west }
+    requires sum_is { local_sum settings.now.predictor cube.now settings.now.band place.y place.x ≡ pos 4 *ℤ smin cube.now.kind +ℤ pos place.sum }
+    requires sum_in { place.sum ≤ 262140 }
+    requires west { IsWest cube.now settings.now.band place.y place.x place.west }
     requires weights_in { AllWithin (2 ^ (settings.now.predictor.omega + 2)) weights.old }
     requires directions { settings.now.predictor.reduced ≡ false
-        → take 3 components.now ≡ open_directions settings.now.predictor cube.now settings.now.band y x }
+        → take 3 components.now ≡ open_directions settings.now.predictor cube.now settings.now.band place.y place.x }
     requires lower { drop (if settings.now.predictor.reduced then 0 else 3) components.now ≡ spectral_differences settings.now.predictor cube.now
-        settings.now.band y x (previous_bands settings.now.predictor settings.now.band) ++ replicate (18 - settings.now.count) (pos 0) }
+        settings.now.band place.y place.x (previous_bands settings.now.predictor settings.now.band) ++ replicate (18 - settings.now.count) (pos 0) }
     requires residual { delta < 2 ^ cube.now.kind.bits }
     requires steps { AreSteps shift cube.now.kind.bits (step_exponent settings.now.predictor cube.now.shape.columns cube.now.kind.bits
-        (y * cube.now.shape.columns + x)) }
+        (place.y * cube.now.shape.columns + place.x)) }
     ensures range { IsSample cube.now.kind result }
-    ensures inverse { mapped cube.now.kind (scaled_there settings.now.predictor (put cube.now settings.now.band y x result) settings.now.band y x
+    ensures inverse { mapped cube.now.kind (scaled_there settings.now.predictor (put cube.now settings.now.band place.y place.x result) settings.now.band place.y place.x
         (take settings.now.count weights.old)) result ≡ delta }
-    ensures weights { take settings.now.count weights.new ≡ next_weights settings.now.predictor (put cube.now settings.now.band y x result)
-        settings.now.band (y * cube.now.shape.columns + x) (take settings.now.count weights.old) }
+    ensures weights { take settings.now.count weights.new ≡ next_weights settings.now.predictor (put cube.now settings.now.band place.y place.x result)
+        settings.now.band (place.y * cube.now.shape.columns + place.x) (take settings.now.count weights.old) }
     ensures bound { AllWithin (2 ^ (settings.now.predictor.omega + 2)) weights.new }
 {
     cube.prove_is_cube();
     let predictor = &settings.predictor;
     let range = &settings.range;
     let mut differences = *components;
-    put_west(settings, cube, y, x, west, &mut differences);
-    let whole = 4 * range.smin + sum as i32;
+    put_west(
+        settings,
+        cube,
+        place.y,
+        place.x,
+        place.west,
+        &mut differences,
+    );
+    let whole = 4 * range.smin + place.sum as i32;
     let part = predicted_difference::<N, WRAPS>(predictor, range, whole, weights, &differences);
-    let found = sample_by_part(range, part, sum, delta);
+    let found = sample_by_part(range, part, place.sum, delta);
     update_by::<N>(weights, &differences, predictor.omega, shift, found.1);
     found.0
 }

@@ -15,6 +15,7 @@ use crate::band::Band;
 use crate::differences::room::{Quad, fill_open_part};
 use crate::forward::run::LEAST;
 use crate::inverse::chain::{OpenRun, invert_places};
+use crate::run::PIECE;
 use crate::settings::Settings;
 use core::mem::replace_with;
 use cube_core::cube::Cube;
@@ -65,7 +66,7 @@ impl Band {
         requires shape { cube.old.shape ≡ self.old.shape }
         requires kind { cube.old.kind ≡ self.old.kind }
         requires place { IsPlace cube.old.shape self.old.band y x }
-        requires few { length deltas.now ≤ 64 }
+        requires few { length deltas.now ≤ PIECE }
         requires inside { x + length deltas.now ≤ cube.old.shape.columns }
         requires next { self.old.t ≡ y * cube.old.shape.columns + x }
         requires residuals_in { (i : ℕ) → i < length deltas.now → slice_index deltas.now i < 2 ^ cube.old.kind.bits }
@@ -124,7 +125,7 @@ fn invert_run<const WRAPS: bool>(
     requires columns { cube.old.shape.columns ≡ settings.now.columns }
     requires kind { cube.old.kind ≡ settings.now.range.kind }
     requires some { 1 ≤ length deltas.now }
-    requires few { length deltas.now ≤ 64 }
+    requires few { length deltas.now ≤ PIECE }
     requires inside { x + length deltas.now ≤ cube.old.shape.columns }
     requires residuals_in { (i : ℕ) → i < length deltas.now → slice_index deltas.now i < 2 ^ cube.old.kind.bits }
     requires weights_in { AllWithin (2 ^ (settings.now.predictor.omega + 2)) weights.old }
@@ -175,7 +176,7 @@ fn invert_by<const Q: usize, const N: usize, const WRAPS: bool>(
     requires columns { cube.old.shape.columns ≡ settings.now.columns }
     requires kind { cube.old.kind ≡ settings.now.range.kind }
     requires some { 1 ≤ length deltas.now }
-    requires few { length deltas.now ≤ 64 }
+    requires few { length deltas.now ≤ PIECE }
     requires inside { x + length deltas.now ≤ cube.old.shape.columns }
     requires residuals_in { (i : ℕ) → i < length deltas.now → slice_index deltas.now i < 2 ^ cube.old.kind.bits }
     requires weights_in { AllWithin (2 ^ (settings.now.predictor.omega + 2)) weights.old }
@@ -190,10 +191,10 @@ fn invert_by<const Q: usize, const N: usize, const WRAPS: bool>(
     cube.prove_is_cube();
     let count = deltas.len();
     let quad = Quad {
-        places: [[0; 4]; 64],
+        places: [[0; 4]; PIECE],
     };
     let mut quads = [quad; Q];
-    let mut sums = [0i32; 64];
+    let mut sums = [0i32; PIECE];
     fill_open_part::<Q>(settings, cube, y, x, count, &mut sums, &mut quads);
     let run = OpenRun {
         settings,

@@ -17,7 +17,7 @@ loop-k-preserved c =
     let kept = c.loop-k.invariant in let s = c.args.settings.now in record {
       done = λ i j l h m q. elim (cases_eq j c.loop-k.k) [
         | inl e ↦ ap (λ n. place c.fill_spectral_line.new.components n i) e ∙ c.fill_spectral_line.ensures.spectral i l h
-            ∙ ap (λ n. lower_difference s.predictor c.args.rows.now.image s.band c.args.y (c.args.x + i) (n - spectral_from s.predictor + 1)) (omega (arith, e))
+            ∙ ap (λ n. lower_difference s.predictor c.args.run.now.image s.band c.args.run.now.y (c.args.run.now.x + i) (n - spectral_from s.predictor + 1)) (omega (arith, e))
         | inr n ↦ c.fill_spectral_line.ensures.others j i n ∙ kept.done i j l h m (omega (arith, q, n))
       ];
       others = λ j i m. c.fill_spectral_line.ensures.others j i (let a = c.loop-k.auto.k in let e = c.first_spectral-k.ensures.value in omega (arith, m, a, e))

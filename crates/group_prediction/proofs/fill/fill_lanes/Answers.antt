@@ -25,9 +25,9 @@ fill_lane-requires-clause-before c j l =
     let other = get_or c.args.bands.now j c.index-bands-i.result in
     let there = slice_get-get_or c.args.bands.now j c.index-bands-i.result (let some = c.loop-i-test.true in omega (arith, within, some)) in
     let told = c.loop-i.invariant.done j other within there in let same = c.requires.alike _ _ _ _ (at d) there in
-    subst (λ l. HoldsCentral c.index-bands-i.result.predictor c.args.rows.now.image l.band c.args.y c.args.x c.args.count l.own) (front_at d j within)
-    (subst (λ z. HoldsCentral c.index-bands-i.result.predictor c.args.rows.now.image z c.args.y c.args.x c.args.count (get_or c.loop-i.out j no_lines).own) (sym told.band)
-    (subst (λ p. HoldsCentral p c.args.rows.now.image other.band c.args.y c.args.x c.args.count (get_or c.loop-i.out j no_lines).own) same told.own))
+    subst (λ l. HoldsCentral c.index-bands-i.result.predictor l.band c.args.run.now l.own) (front_at d j within)
+    (subst (λ z. HoldsCentral c.index-bands-i.result.predictor z c.args.run.now (get_or c.loop-i.out j no_lines).own) (sym told.band)
+    (subst (λ p. HoldsCentral p other.band c.args.run.now (get_or c.loop-i.out j no_lines).own) same told.own))
 
 pub loop-i-preserved : goal.loop-i-preserved
 loop-i-preserved c =
@@ -47,14 +47,14 @@ loop-i-preserved c =
             sym (get_or_from_slice_get c.args.bands.now c.loop-i.i c.index-bands-i.result b (at d))
             ∙ get_or_from_slice_get c.args.bands.now c.loop-i.i b b
             (subst (λ k. slice_get c.args.bands.now k ≡ Some b) h e) in
-            subst (λ l. AreBandsLines c.args.n b.predictor b.band c.args.rows.now.image c.args.y c.args.x c.args.count l) (sym written)
-            (subst (λ (v : PredictorState). AreBandsLines c.args.n v.predictor v.band c.args.rows.now.image c.args.y c.args.x c.args.count c.fill_lane.new.out) same
+            subst (λ l. AreBandsLines c.args.n b.predictor b.band c.args.run.now l) (sym written)
+            (subst (λ (v : PredictorState). AreBandsLines c.args.n v.predictor v.band c.args.run.now c.fill_lane.new.out) same
             c.fill_lane.ensures))
         | inr n ↦
             (let within : j < c.loop-i.i = omega (arith, l, n) in
             let kept : get_or (front ++ set back 0 c.fill_lane.new.out) j no_lines ≡ get_or c.loop-i.out j no_lines =
             get_or_append_left front (set back 0 c.fill_lane.new.out) no_lines j (omega (arith, long, within)) ∙ sym (front_at d j within) in
-            subst (λ l. AreBandsLines c.args.n b.predictor b.band c.args.rows.now.image c.args.y c.args.x c.args.count l) (sym kept)
+            subst (λ l. AreBandsLines c.args.n b.predictor b.band c.args.run.now l) (sym kept)
             (c.loop-i.invariant.done j b within e))
       ];
       long = length-append front (set back 0 c.fill_lane.new.out)
@@ -65,5 +65,5 @@ pub returns : goal.returns
 returns c i b l e =
     let some = c.requires.some_bands.0 in let end = c.loop-i-test.false in
     let last : min i (length c.args.bands.now - 1) < c.loop-i.i = omega (arith, some, end) in
-    subst (λ v. AreBandsLines c.args.n b.predictor b.band c.args.rows.now.image c.args.y c.args.x c.args.count v) (sym (c.repeat_last.ensures i l))
+    subst (λ v. AreBandsLines c.args.n b.predictor b.band c.args.run.now v) (sym (c.repeat_last.ensures i l))
     (c.loop-i.invariant.done (min i (length c.args.bands.now - 1)) b last e)

@@ -15,12 +15,12 @@ returns g c = record {
         kind = ap (λ v. v.kind) is;
         columns = c.band.invariant.columns ∙ ap (λ v. v.shape.columns) is ∙ sym (ap (λ v. v.columns) c.requires.next.shape);
       })) in
-      piece_held s c.args.rows.now.image c.args.places.y c.args.places.x c.args.places.count c.band.inside.weights c.finish_piece-piece.new.weights c.args.band.now _ c.requires.next.next
+      piece_held s c.args.run.now.image c.args.run.now.y c.args.run.now.x c.args.run.now.count c.band.inside.weights c.finish_piece-piece.new.weights c.args.band.now _ c.requires.next.next
       (ap (λ v. v.predictor) is) (ap (λ v. v.band) is) (ap (λ v. v.weights) is) predicted (record {
         predictor = ap (λ v. v.predictor) is;
         shape = ap (λ v. v.shape) is;
         kind = ap (λ v. v.kind) is;
         band = ap (λ v. v.band) is;
-        t = ap (λ v. v.t + c.args.places.count) is;
+        t = ap (λ n. c.band.inside.next + n) c.count.ensures ∙ ap (λ v. v.t + c.args.run.now.count) is;
       }) refl;
 }

@@ -22,7 +22,7 @@ small width l m = fits_signed_from_abs w16 width (omega (arith, ints, l, m))
 -- from the least offset to the greatest
 module _ (c : After-copy_offsets) where
   abbrev k : SampleKind
-  k = c.args.rows.now.image.kind
+  k = c.args.run.now.image.kind
 
   abbrev span_of : ℤ
   span_of = to_z w32 (of_z w32 (to_z w32 (of_z w32 c.args.settings.now.range.smax) -ℤ to_z w32 (of_z w32 c.args.settings.now.range.smin)))
@@ -58,25 +58,27 @@ map_places-requires-clause-greatest_in c =
 
 pub map_places-requires-clause-offsets_in : goal.map_places-requires-clause-offsets_in
 map_places-requires-clause-offsets_in c i l =
-    let d = (goal.at.map_places-requires-clause-offsets_in c).After-copy_offsets in rw (width d) (elim (cases_lt i c.args.count) [
-      | inl h ↦ rw (c.copy_offsets.ensures.written i h) (below_span c.args.rows.now.image.kind _ ((rw c.requires.row at c.row-row.ensures.samples) (c.args.x + i) (omega (arith, h))).0)
-      | inr h ↦ rw (c.copy_offsets.ensures.rest i h) (below_span c.args.rows.now.image.kind 0 (pow_pos c.args.rows.now.image.kind.bits))
+    let d = (goal.at.map_places-requires-clause-offsets_in c).After-copy_offsets in rw (width d) (elim (cases_lt i c.count.result) [
+      | inl h ↦
+          (let x = c.x.ensures in let count = c.count.ensures in let run = c.requires.run.inside in
+          rw (c.copy_offsets.ensures.written i h) (below_span c.args.run.now.image.kind _ (c.row-row.ensures.samples (c.x.result + i) (omega (arith, h, x, count, run))).0))
+      | inr h ↦ rw (c.copy_offsets.ensures.rest i h) (below_span c.args.run.now.image.kind 0 (pow_pos c.args.run.now.image.kind.bits))
     ])
 
 pub returns-clause-bound : goal.returns-clause-bound
 returns-clause-bound c i within =
-    let d = (goal.at.returns-clause-bound c).After-copy_offsets in let few = c.requires.few in
+    let d = (goal.at.returns-clause-bound c).After-copy_offsets in let few = c.requires.run.few in
     in_power _ _ _ (powers d) (rw (width d) at c.map_places.ensures.bound i (omega arith))
 
 pub returns-clause-values : goal.returns-clause-values
 unfolding offset_number
 returns-clause-values c i within h =
     let d = (goal.at.returns-clause-values c).After-copy_offsets in let s = c.args.settings.now in
-    let k : SampleKind = c.args.rows.now.image.kind in let few = c.requires.few in
+    let k : SampleKind = c.args.run.now.image.kind in let few = c.requires.run.few in
     let part : ℤ = get_or c.args.parts.now i (pos 0) in let sum : ℤ = get_or c.args.sums.now i (pos 0) in
     let number = rw (width d) at (c.map_places.ensures.values i (omega arith)) in
-    let sample = ((rw c.requires.row at c.row-row.ensures.samples) (c.args.x + i) (omega (arith, within, c.requires.inside))).1 in
-    rw (c.copy_offsets.ensures.written i within) at number
-    ∙ offset_mapped (smin k) (smid k) (smax k) part sum (local_sum s.predictor _ s.band _ (c.args.x + i)) (get_or c.row-row.result.now (c.args.x + i) 0)
-    (c.requires.sum i within h)
+    let sample = (c.row-row.ensures.samples (c.args.run.now.x + i) (omega (arith, within, c.requires.run.inside))).1 in
+    rw (rw c.x.ensures at c.copy_offsets.ensures.written i (let n = c.count.ensures in omega (arith, within, n))) at number
+    ∙ offset_mapped (smin k) (smid k) (smax k) part sum (local_sum s.predictor _ s.band _ (c.args.run.now.x + i)) (get_or c.row-row.result.now (c.args.run.now.x + i) 0)
+    (c.requires.sums i within h)
     ∙ ap (mapped_between (smin k) (smax k) _) (sym sample)

@@ -9,14 +9,14 @@ use Rattle.group_prediction.proofs.steps.follow_piece.Given as goal
 
 abbrev pub invariant-loop-at : goal.invariant-loop-at
 invariant-loop-at g l = record {
-  begun : l.places.first ≤ l.at;
-  within : l.at ≤ l.places.count;
+  begun : l.run.first ≤ l.at;
+  within : l.at ≤ l.run.count;
   weights_in : (b : ℕ) → b < 8 → AllWithin (2 ^ (l.settings.predictor.omega + 2)) (weights_of g.row.Q b l.weights);
-  followed : (b : ℕ) (s : Settings) (c : Image) → b < 8 → IsLane g.row.Q b s c l.places.y l.places.x l.places.count l.own l.pairs → s.predictor ≡ l.settings.predictor
+  followed : (b : ℕ) (s : Settings) (c : Image) → b < 8 → IsLane g.row.Q b s c l.run.y l.run.x l.run.count l.own l.pairs → s.predictor ≡ l.settings.predictor
       → s.range.kind ≡ l.settings.range.kind → s.columns ≡ l.settings.columns
-      → IsFollowed s c l.places.y l.places.x l.places.first (weights_of g.row.Q b l.fn.weights) l.places.first (weights_of g.row.Q b l.fn.weights) (numbers_of b l.fn.parts)
-      → IsFollowed s c l.places.y l.places.x l.places.first (weights_of g.row.Q b l.fn.weights) l.at (weights_of g.row.Q b l.weights) (numbers_of b l.parts);
+      → IsFollowed s c l.run.y l.run.x l.run.first (weights_of g.row.Q b l.fn.weights) l.run.first (weights_of g.row.Q b l.fn.weights) (numbers_of b l.fn.parts)
+      → IsFollowed s c l.run.y l.run.x l.run.first (weights_of g.row.Q b l.fn.weights) l.at (weights_of g.row.Q b l.weights) (numbers_of b l.parts);
 }
 
 abbrev pub decreases-loop-at : goal.decreases-loop-at
-decreases-loop-at g l = l.places.count - l.at
+decreases-loop-at g l = l.run.count - l.at

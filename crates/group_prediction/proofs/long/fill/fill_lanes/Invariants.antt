@@ -6,6 +6,6 @@ use Rattle.group_prediction.proofs.long.fill.fill_lanes.Given as goal
 abbrev pub invariant-loop-i : goal.invariant-loop-i
 invariant-loop-i l = record {
   done : (j : ℕ) (b : PredictorState) → j < l.i → slice_get l.bands j ≡ Some b
-      → AreLongLines l.n b.predictor b.band l.rows.image l.y l.x l.count (slice_index_or l.out j no_long_lines);
+      → AreLongLines l.n b.predictor b.band l.run (slice_index_or l.out j no_long_lines);
   long : length l.out ≡ 8;
 }

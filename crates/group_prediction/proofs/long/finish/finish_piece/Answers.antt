@@ -22,7 +22,7 @@ returns-clause-within g c = inside g (goal.at.returns-clause-within g c).After-t
 
 pub returns-clause-predicted : goal.returns-clause-predicted
 returns-clause-predicted g c begun same followed =
-    group_predicted c.args.settings.now c.args.rows.now.image c.args.places.y c.args.places.x c.args.places.first c.args.places.count (2 * g.row.Q) c.args.weights.now begun
-    (column_of (2 * g.row.Q) c.args.b c.args.weight_rows.now) c.take_weights.new.weights c.args.parts.now c.write_piece.new.piece c.requires.first same followed
+    group_predicted c.args.settings.now c.args.run.now.image c.args.run.now.y c.args.run.now.x c.args.run.now.first c.args.run.now.count (2 * g.row.Q) c.args.weights.now begun
+    (column_of (2 * g.row.Q) c.args.b c.args.weight_rows.now) c.take_weights.new.weights c.args.parts.now c.write_piece.new.piece c.requires.run.run.first same followed
     c.take_weights.ensures.first c.requires.enough (inside g (goal.at.returns-clause-predicted g c).After-take_weights) c.write_piece.ensures.bound
     c.write_piece.ensures.residuals

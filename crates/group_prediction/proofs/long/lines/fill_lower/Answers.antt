@@ -12,8 +12,8 @@ use Rattle.group_prediction.proofs.long.lines.fill_lower.Goals as goal
 
 pub returns-then-below-settings : goal.returns-then-below-settings
 returns-then-below-settings c i l h =
-    let s = c.args.settings.now in let within : i < 64 = (let f = c.requires.few in omega (arith, l, f)) in
-    c.clear_line.ensures i within ∙ sym (lower_none s.predictor c.args.rows.now.image s.band c.args.y (c.args.x + i) c.args.below
+    let s = c.args.settings.now in let within : i < 64 = (let f = c.requires.run.few in omega (arith, l, f)) in
+    c.clear_line.ensures i within ∙ sym (lower_none s.predictor c.args.run.now.image s.band c.args.run.now.y (c.args.run.now.x + i) c.args.below
     (let n = s.near_is in let t = c.if-below-settings.true in omega (arith, n, t)))
 
 -- what the next lower band's lines hold of the band
@@ -40,17 +40,17 @@ returns-then-lines-settings c i l h =
     let inside : last < length c.args.before.now = search rules in let same = c.if-lines-settings.true in
     elim (cases_eq c.args.below 1) [
       | inl e ↦ ap (λ xs. get_or xs i (pos 0)) (c.copy_lower.ensures.own e) ∙ c.requires.before last inside i l h
-          ∙ ap (λ z. central_difference s.predictor c.args.rows.now.image z c.args.y (c.args.x + i)) (same ∙ omega (arith, e))
-          ∙ sym (lower_is s.predictor c.args.rows.now.image s.band c.args.y (c.args.x + i) c.args.below near)
+          ∙ ap (λ z. central_difference s.predictor c.args.run.now.image z c.args.run.now.y (c.args.run.now.x + i)) (same ∙ omega (arith, e))
+          ∙ sym (lower_is s.predictor c.args.run.now.image s.band c.args.run.now.y (c.args.run.now.x + i) c.args.below near)
       | inr n ↦ (let two : 2 ≤ c.args.below = (let o = c.requires.below_in in omega (arith, n, o)) in
           ap (λ xs. get_or xs i (pos 0)) (c.copy_lower.ensures.lower two)
           ∙ c.requires.components last inside i (spectral_from s.predictor + c.args.below - 2) l h (omega (arith, two))
-          ∙ ap (λ z. get_or (difference_vector s.predictor c.args.rows.now.image z c.args.y (c.args.x + i)) (spectral_from s.predictor + c.args.below - 2) (pos 0)) same
-          ∙ next_lower s.predictor c.args.rows.now.image s.band c.args.y (c.args.x + i) c.args.below (spectral_from s.predictor) two near refl)
+          ∙ ap (λ z. get_or (difference_vector s.predictor c.args.run.now.image z c.args.run.now.y (c.args.run.now.x + i)) (spectral_from s.predictor + c.args.below - 2) (pos 0)) same
+          ∙ next_lower s.predictor c.args.run.now.image s.band c.args.run.now.y (c.args.run.now.x + i) c.args.below (spectral_from s.predictor) two near refl)
     ]
 
 pub returns : goal.returns
 returns c i l h =
     let s = c.args.settings.now in
     let near : c.args.below ≤ previous_bands s.predictor s.band = (let n = s.near_is in let t = c.if-below-settings.false in omega (arith, n, t)) in
-    c.fill_central.ensures.own_are i l h ∙ sym (lower_is s.predictor c.args.rows.now.image s.band c.args.y (c.args.x + i) c.args.below near)
+    c.fill_central.ensures.own_are i l h ∙ sym (lower_is s.predictor c.args.run.now.image s.band c.args.run.now.y (c.args.run.now.x + i) c.args.below near)

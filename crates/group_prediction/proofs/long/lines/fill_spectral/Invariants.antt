@@ -6,8 +6,8 @@ use Rattle.group_prediction.proofs.long.lines.fill_spectral.Given as goal
 
 abbrev pub invariant-loop-k : goal.invariant-loop-k
 invariant-loop-k l = record {
-  done : (i j : ℕ) → i < l.count → 0 < l.y + (l.x + i) → spectral_from l.settings.predictor ≤ j → j < l.k
-      → place l.components j i ≡ lower_difference l.settings.predictor l.rows.image l.settings.band l.y (l.x + i) (j - spectral_from l.settings.predictor + 1);
+  done : (i j : ℕ) → i < l.run.count → 0 < l.run.y + (l.run.x + i) → spectral_from l.settings.predictor ≤ j → j < l.k
+      → place l.components j i ≡ lower_difference l.settings.predictor l.run.image l.settings.band l.run.y (l.run.x + i) (j - spectral_from l.settings.predictor + 1);
   others : (j i : ℕ) → j < spectral_from l.settings.predictor → place l.components j i ≡ place l.initial.components j i;
   long : length l.components ≡ 18;
 }

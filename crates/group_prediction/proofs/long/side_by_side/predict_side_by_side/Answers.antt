@@ -26,7 +26,7 @@ predict_four-requires-clause-lines g c b s l e =
     let first : min b (k - 1) ≡ min b (length bands - 1) = omega (arith, is, l, some) in
     let told = c.fill_lanes.ensures b s (omega (arith, l, some)) (subst (λ n. slice_get bands n ≡ Some s) first at) in
     let none : b ≡ 0 + b = omega arith in
-    subst (λ n. AreLongLines (2 * g.row.Q) s.predictor s.band c.args.rows.now.image c.args.y c.args.x c.args.count (slice_index_or c.fill_lanes.new.out n no_long_lines)) none told
+    subst (λ n. AreLongLines (2 * g.row.Q) s.predictor s.band c.args.run.now (slice_index_or c.fill_lanes.new.out n no_long_lines)) none told
 
 pub predict_high-requires-clause-lines : goal.predict_high-requires-clause-lines
 predict_high-requires-clause-lines g c b s l e =

@@ -7,5 +7,5 @@ pub returns : goal.returns
 returns c = λ i l h.
     let s = c.args.settings.now in let a = c.fill_below.ensures i l h in let b = c.fill_below-2.ensures i l h in
     let last : previous_bands s.predictor s.band ≤ c.args.nearest + 1 = (let n = s.near_is in let m = c.requires.last in omega (arith, n, m)) in
-    rw (c.is_column-column.ensures, a, b) at (c.fill_two.ensures i (omega arith))
-    ∙ lower_two s.predictor c.args.rows.now.image s.band c.args.y (c.args.x + i) c.args.nearest last
+    rw (c.is_column-column.ensures, c.y.ensures, a, b) at (c.fill_two.ensures i (omega arith))
+    ∙ lower_two s.predictor c.args.run.now.image s.band c.args.run.now.y (c.args.run.now.x + i) c.args.nearest last

@@ -4,7 +4,7 @@ use Rattle.predict_core.proofs.differences.below.fill_spectral.Given as goal
 
 abbrev pub invariant-loop-q : goal.invariant-loop-q
 invariant-loop-q g l = record {
-  done : (i : ℕ) → i < l.count → 0 < l.y + (l.x + i) → components_at l.q l.quads i
-      ≡ components_at l.first l.initial.quads i ++ lower_differences l.settings.predictor l.rows.image l.settings.band l.y (l.x + i) l.nearest (4 * (l.q - l.first));
+  done : (i : ℕ) → i < l.run.count → 0 < l.run.y + (l.run.x + i) → components_at l.q l.quads i
+      ≡ components_at l.first l.initial.quads i ++ lower_differences l.settings.predictor l.run.image l.settings.band l.run.y (l.run.x + i) l.nearest (4 * (l.q - l.first));
   long : length l.quads ≡ g.row.Q;
 }

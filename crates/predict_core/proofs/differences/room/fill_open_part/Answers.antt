@@ -18,14 +18,14 @@ module _ (g : given.Over) (c : After-fill_line_above g) where
   summed =
       let s = c.args.settings.now in
       open_line s.predictor c.args.cube.now s.band c.args.y c.args.x c.args.count c.row_above-above.result.now c.fill_line_above.new.upper c.requires.inside
-      (rw c.of-rows.ensures at c.row_above-above.ensures.len) (rw c.of-rows.ensures at c.row_above-above.ensures.samples) (rw c.requires.columns s.wide) c.fill_line_above.ensures (replicate 66 0) refl
+      (rw (c.new-run.ensures.image, c.of-rows.ensures) at c.row_above-above.ensures.len) (rw (c.new-run.ensures.image, c.new-run.ensures.y, c.of-rows.ensures) at c.row_above-above.ensures.samples) (rw c.requires.columns s.wide) c.fill_line_above.ensures (replicate 66 0) refl
 
 pub returns-then-settings : goal.returns-then-settings
 returns-then-settings g c = λ i l.
     let d = (goal.at.returns-then-settings g c).After-fill_line_above in let s = c.args.settings.now in
     reduced_part s.predictor c.args.cube.now s.band c.args.y (c.args.x + i) s.count _ _ c.if-settings.true s.count_is
     (c.fill_open_sums.ensures i (omega arith) ∙ summed g d i l)
-    ((rw c.of-rows.ensures at c.fill_spectral.ensures) i l (omega arith) ∙ ap (λ us. us
+    ((rw (c.new-run.ensures.image, c.new-run.ensures.y, c.new-run.ensures.x, c.new-run.ensures.count, c.of-rows.ensures) at c.fill_spectral.ensures) i l (omega arith) ∙ ap (λ us. us
     ++ lower_differences s.predictor c.args.cube.now s.band c.args.y (c.args.x + i) 1 (4 * (quads_of s.count - 0))) (components_none c.args.quads.now i))
 
 module _ (g : given.Over) (c : After-fill_spectral-else-settings g) where
@@ -48,8 +48,8 @@ module _ (g : given.Over) (c : After-fill_spectral-else-settings g) where
   done i l a b d head front =
       let s = c.args.settings.now in let column = under_top s.predictor.column c.args.y (λ e. omega (arith, e, c.requires.later)) in
       full_part s.predictor c.args.cube.now s.band c.args.y (c.args.x + i) s.count _ _ a b d (below i) c.if-settings.false s.count_is
-      (c.fill_open_directions.ensures.sums i (omega arith) ∙ summed g from i l) front (rw column at ((rw c.of-rows.ensures at c.fill_below.ensures) i l (omega arith)))
-      ((rw c.of-rows.ensures at c.fill_spectral-else-settings.ensures) i l (omega arith)
+      (c.fill_open_directions.ensures.sums i (omega arith) ∙ summed g from i l) front (rw column at ((rw (c.new-run.ensures.image, c.new-run.ensures.y, c.new-run.ensures.x, c.new-run.ensures.count, c.of-rows.ensures) at c.fill_below.ensures) i l (omega arith)))
+      ((rw (c.new-run.ensures.image, c.new-run.ensures.y, c.new-run.ensures.x, c.new-run.ensures.count, c.of-rows.ensures) at c.fill_spectral-else-settings.ensures) i l (omega arith)
       ∙ ap (λ us. us ++ lower_differences s.predictor c.args.cube.now s.band c.args.y (c.args.x + i) 2 (4 * (quads_of s.count - 1))) head)
 
   inner : (i : ℕ) → i < c.args.count → c.args.x + i ≢ 0
@@ -58,7 +58,7 @@ module _ (g : given.Over) (c : After-fill_spectral-else-settings g) where
   inner i l n =
       let s = c.args.settings.now in
       open_inner s.predictor c.args.cube.now s.band c.args.y c.args.x c.args.count c.row_above-above.result.now c.fill_line_above.new.upper c.requires.inside
-      (rw c.of-rows.ensures at c.row_above-above.ensures.len) (rw c.of-rows.ensures at c.row_above-above.ensures.samples) (rw c.requires.columns s.wide) c.fill_line_above.ensures (replicate 66 0) refl i l n
+      (rw (c.new-run.ensures.image, c.of-rows.ensures) at c.row_above-above.ensures.len) (rw (c.new-run.ensures.image, c.new-run.ensures.y, c.of-rows.ensures) at c.row_above-above.ensures.samples) (rw c.requires.columns s.wide) c.fill_line_above.ensures (replicate 66 0) refl i l n
 
 pub returns-after-x-eq0 : goal.returns-after-x-eq0
 unfolding below
@@ -72,7 +72,7 @@ returns-after-x-eq0 g c = λ i l.
             ∷ offset_difference (get_or (replicate {A = ℕ} 66 0) k 0) (line_sum s.predictor.column (replicate 66 0) c.fill_line_above.new.upper k)
             ∷ line_north s.predictor.column (replicate 66 0) c.fill_line_above.new.upper k ∷ []) (sym e)
             ∙ open_first s.predictor c.args.cube.now s.band c.args.y c.args.x c.args.count c.row_above-above.result.now c.fill_line_above.new.upper c.requires.inside
-            (rw c.of-rows.ensures at c.row_above-above.ensures.len) (rw c.of-rows.ensures at c.row_above-above.ensures.samples) (rw c.requires.columns s.wide) c.fill_line_above.ensures (replicate 66 0)
+            (rw (c.new-run.ensures.image, c.of-rows.ensures) at c.row_above-above.ensures.len) (rw (c.new-run.ensures.image, c.new-run.ensures.y, c.of-rows.ensures) at c.row_above-above.ensures.samples) (rw c.requires.columns s.wide) c.fill_line_above.ensures (replicate 66 0)
             refl i l (omega (arith, e, w.if-x-eq0.true)))
         | inr n ↦ done g c i l _ _ _
             (ap (λ qs. components_at 1 qs i) w.quads-is ∙ one_quad c.args.quads.now _ i (some g c)

@@ -1,4 +1,4 @@
-use Rattle.std.proofs.Common.{◌≡◌, ◌≤◌, ◌-◌, ◌^◌, ℤ, pos, negsuc, ◌≤ℤ◌, ◌+ℤ◌, ◌*ℤ◌, ap, ◌∙◌, int_le, take, SFits, w32, to_z, of_z, to_z-of_z}
+use Rattle.std.proofs.Common.{◌≡◌, ◌+◌, ◌≤◌, ◌-◌, ◌^◌, ℤ, pos, negsuc, ◌≤ℤ◌, ◌+ℤ◌, ◌*ℤ◌, ap, ◌∙◌, int_le, take, SFits, w32, to_z, of_z, to_z-of_z}
 use Rattle.std.proofs.Common.{rules, arith, pow_mono}
 use Rattle.std.proofs.lemmas.Int.{ints}
 use Rattle.sample_prediction.specs.Chain.{scaled_by_difference}
@@ -19,33 +19,33 @@ reckoned low sum h k = let a = h.0 in let b = h.1 in let d = k.0 in let e = k.1 
 
 pub predicted_difference-predicted-requires-clause-differences_in : goal.predicted_difference-predicted-requires-clause-differences_in
 predicted_difference-predicted-requires-clause-differences_in g c =
-    let s = c.args.settings.now in let bits : c.args.rows.now.image.kind.bits ≤ 16 = c.prove_is_row.ensures.cube.bits.1 in
-    within_most c.args.rows.now.image.kind.bits c.args.differences.now bits
+    let s = c.args.settings.now in let bits : c.args.run.now.image.kind.bits ≤ 16 = c.prove_is_row.ensures.cube.bits.1 in
+    within_most c.args.run.now.image.kind.bits c.args.differences.now bits
     (rw c.requires.differences_are (padded_within s.predictor _ c.prove_is_row.ensures.cube _ _ c.requires.later (rw c.requires.columns s.wide)
     s.band c.requires.place (18 - s.count)))
 
 pub follow-requires-clause-own_in : goal.follow-requires-clause-own_in
 follow-requires-clause-own_in g c =
-    let s = c.args.settings.now in let power : 2 ^ c.args.rows.now.image.kind.bits ≤ 2 ^ 16 = pow_mono (c.prove_is_row.ensures.cube.bits.1) in
-    let small = central_within s.predictor c.args.rows.now.image c.prove_is_row.ensures.cube c.args.y c.args.x c.requires.later (rw c.requires.columns s.wide)
+    let s = c.args.settings.now in let power : 2 ^ c.args.run.now.image.kind.bits ≤ 2 ^ 16 = pow_mono (c.prove_is_row.ensures.cube.bits.1) in
+    let small = central_within s.predictor c.args.run.now.image c.prove_is_row.ensures.cube c.args.run.now.y (c.args.run.now.x + c.args.i) c.requires.later (rw c.requires.columns s.wide)
     s.band c.requires.place in
     rw (to_z-of_z c.ranges.own, c.requires.own_is) (omega (arith, power, small))
 
 pub follow-requires-clause-differences_in : goal.follow-requires-clause-differences_in
 follow-requires-clause-differences_in g c =
     let s = c.args.settings.now in rw (c.requires.differences_are, c.requires.bits, s.range.bits_is, ← c.requires.kind)
-    (padded_within s.predictor c.args.rows.now.image c.prove_is_row.ensures.cube c.args.y c.args.x c.requires.later (rw c.requires.columns s.wide)
+    (padded_within s.predictor c.args.run.now.image c.prove_is_row.ensures.cube c.args.run.now.y (c.args.run.now.x + c.args.i) c.requires.later (rw c.requires.columns s.wide)
     s.band c.requires.place (18 - s.count))
 
 -- the scaled prediction comes from the predicted difference
 module _ (g : given.Over) (c : After-predicted_difference-predicted g) where
-  from_difference : scaled_by c.args.settings.now.predictor c.args.rows.now.image.kind (local_sum c.args.settings.now.predictor c.args.rows.now.image
-      c.args.settings.now.band c.args.y c.args.x) (take g.row.N c.args.weights.now) (take g.row.N c.args.differences.now)
-      ≡ scaled_by_difference c.args.rows.now.image.kind c.predicted_difference-predicted.result
-      (local_sum c.args.settings.now.predictor c.args.rows.now.image c.args.settings.now.band c.args.y c.args.x)
+  from_difference : scaled_by c.args.settings.now.predictor c.args.run.now.image.kind (local_sum c.args.settings.now.predictor c.args.run.now.image
+      c.args.settings.now.band c.args.run.now.y (c.args.run.now.x + c.args.i)) (take g.row.N c.args.weights.now) (take g.row.N c.args.differences.now)
+      ≡ scaled_by_difference c.args.run.now.image.kind c.predicted_difference-predicted.result
+      (local_sum c.args.settings.now.predictor c.args.run.now.image c.args.settings.now.band c.args.run.now.y (c.args.run.now.x + c.args.i))
   from_difference =
       let s = c.args.settings.now in let r = s.range in
-      let sum : pos 4 *ℤ r.smin +ℤ c.args.sum ≡ local_sum s.predictor c.args.rows.now.image s.band c.args.y c.args.x =
+      let sum : pos 4 *ℤ r.smin +ℤ c.args.sum ≡ local_sum s.predictor c.args.run.now.image s.band c.args.run.now.y (c.args.run.now.x + c.args.i) =
       rw (r.smin_is, ← c.requires.kind) c.requires.sum_is in
       rw (← sum, c.requires.kind) (rw (reckoned r.smin c.args.sum r.low c.requires.sum_in) at c.predicted_difference-predicted.ensures.scaled)
 
@@ -53,7 +53,7 @@ pub returns-clause-scaled : goal.returns-clause-scaled
 returns-clause-scaled g c =
     let d = (goal.at.returns-clause-scaled g c).After-predicted_difference-predicted in let s = c.args.settings.now in
     let fits : SFits w32 c.predicted_difference-predicted.result = search rules in rw (to_z-of_z fits)
-    (scaled_from_room s.predictor c.args.rows.now.image s.band c.args.y c.args.x s.count g.row.N c.args.weights.now c.args.differences.now c.prove_is_row.ensures.cube
+    (scaled_from_room s.predictor c.args.run.now.image s.band c.args.run.now.y (c.args.run.now.x + c.args.i) s.count g.row.N c.args.weights.now c.args.differences.now c.prove_is_row.ensures.cube
     c.requires.place s.count_is c.requires.enough c.requires.few c.requires.differences_are c.predicted_difference-predicted.result (from_difference g d))
 
 pub returns-clause-weights : goal.returns-clause-weights

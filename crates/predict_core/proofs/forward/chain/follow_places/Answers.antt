@@ -4,7 +4,7 @@ use Rattle.predict_core.proofs.forward.chain.follow_places.Goals as goal
 
 pub follow_place-requires : goal.follow_place-requires
 follow_place-requires g c =
-    let run = first_of_run _ _ _ _ _ _ _ _ _ _ _ _ (omega arith) c.requires.run in
+    let run = first_of_run _ _ _ _ _ _ _ _ _ _ _ _ (omega arith) c.requires.known in
     (omega arith, (run, (omega (arith, c.requires.later), (c.requires.steps c.loop-i.i (omega arith) (omega arith), c.loop-i.invariant.bound))))
 
 pub loop-i-preserved : goal.loop-i-preserved

@@ -1,50 +1,54 @@
-use Rattle.std.proofs.Common.{◌≡◌, ◌≤◌, ◌<◌, ◌+◌, ◌*◌, pos, ℕ, ℤ, List, take, length, slice_index_or, slice_index, slice_set, rules, arith, ◌∙◌, ap}
+use Rattle.std.proofs.Common.{◌≡◌, ◌≢◌, sym, ◌≤◌, ◌<◌, ◌+◌, ◌*◌, pos, ℕ, ℤ, List, take, length, slice_index_or, slice_index, slice_set, arith, ◌∙◌, get_or-take}
 use Rattle.std.proofs.Common.{length-set}
-use Rattle.std.proofs.lemmas.List.{take_at, set-append_left}
+use Rattle.std.proofs.lemmas.List.{length-take-le}
 use Rattle.header_bits.specs.declared.params.Params.{Params}
 use Rattle.sample_prediction.specs.Chain.{AreWeightsAt, scaled_by_difference}
 use Rattle.sample_prediction.specs.LocalSum.{local_sum}
 use Rattle.sample_prediction.specs.Residual.{mapped_residual}
 use Rattle.predict_core.specs.RunChains.{IsFollowed}
 use Rattle.predict_core.proofs.RunChains.{at_first}
-use Rattle.predict_core.proofs.WholeRuns.{run_is, mapped_at, with_first}
+use Rattle.predict_core.proofs.WholeRuns.{run_is, mapped_at, with_first, set_taken}
 use Rattle.predict_core.proofs.forward.known_run.write_residuals.Given as given
 use Rattle.predict_core.proofs.forward.known_run.write_residuals.Goals as goal
 use Rattle.predict_core.proofs.forward.known_run.write_residuals.Goals.{After-map_run}
 
 -- the residuals of the places that have weights
 later_is : (g : given.Over) (c : After-map_run g) (p : Params) (begun ws : List ℤ)
-    → AreWeightsAt p c.args.run.settings.now.predictor c.args.rows.now.image c.args.run.settings.now.band
-    (c.args.y * c.args.rows.now.image.shape.columns + c.args.x) (take c.args.run.settings.now.count begun)
-    → IsFollowed c.args.run.settings.now c.args.rows.now.image c.args.y c.args.x c.args.first begun c.args.count ws c.args.state.now.parts
-    → length c.map_run.new.residuals ≡ c.args.count → (i : ℕ) → i < length c.map_run.new.residuals → c.args.first ≤ i
-    → slice_index c.map_run.new.residuals i
-    ≡ mapped_residual p c.args.rows.now.image c.args.run.settings.now.band (c.args.y * c.args.rows.now.image.shape.columns + c.args.x + i)
-later_is g c p begun ws f followed long i l m =
-    let s = c.args.run.settings.now in let later = c.requires.first.later in
-    let there = at_first p s.predictor c.args.rows.now.image s.band c.args.y c.args.x c.args.first (take s.count begun) c.requires.first f in
-    mapped_at p c.args.rows.now.image s.band c.args.y c.args.x i (slice_index c.map_run.new.residuals i) (scaled_by_difference c.args.rows.now.image.kind
-    (slice_index_or c.args.state.now.parts i (pos 0)) (local_sum s.predictor c.args.rows.now.image s.band c.args.y (c.args.x + i)))
-    (omega (arith, l, long, c.requires.inside)) (followed.predicted p there i m (omega (arith, l, long)))
+    → AreWeightsAt p c.args.known.settings.now.predictor c.args.run.now.image c.args.known.settings.now.band
+    (c.args.run.now.y * c.args.run.now.image.shape.columns + c.args.run.now.x) (take c.args.known.settings.now.count begun)
+    → IsFollowed c.args.known.settings.now c.args.run.now.image c.args.run.now.y c.args.run.now.x c.args.run.now.first begun c.args.run.now.count ws c.args.state.now.parts
+    → (i : ℕ) → i < c.args.run.now.count → c.args.run.now.first ≤ i
+    → slice_index (take c.args.run.now.count c.map_run.new.residuals) i
+    ≡ mapped_residual p c.args.run.now.image c.args.known.settings.now.band (c.args.run.now.y * c.args.run.now.image.shape.columns + c.args.run.now.x + i)
+later_is g c p begun ws f followed i l m =
+    let s = c.args.known.settings.now in let later = c.requires.run.first.later in let inside = c.requires.run.inside in
+    let there = at_first p s.predictor c.args.run.now.image s.band c.args.run.now.y c.args.run.now.x c.args.run.now.first (take s.count begun) c.requires.run.first f in
+    get_or-take c.args.run.now.count c.map_run.new.residuals i 0 l
+    ∙ mapped_at p c.args.run.now.image s.band c.args.run.now.y c.args.run.now.x i (slice_index c.map_run.new.residuals i) (scaled_by_difference c.args.run.now.image.kind
+    (slice_index_or c.args.state.now.parts i (pos 0)) (local_sum s.predictor c.args.run.now.image s.band c.args.run.now.y (c.args.run.now.x + i)))
+    (omega (arith, l, inside)) (followed.predicted p there i m l)
     (c.map_run.ensures.values i l (omega (arith, later, m)))
+
+long_enough : (g : given.Over) (c : After-map_run g) → length (take c.args.run.now.count c.map_run.new.residuals) ≡ c.args.run.now.count
+long_enough g c = let few = c.requires.run.few in let l = c.map_run.ensures.long in length-take-le c.args.run.now.count c.map_run.new.residuals (omega (arith, few, l))
 
 pub returns-then-first-eq1-clause-residuals : goal.returns-then-first-eq1-clause-residuals
 returns-then-first-eq1-clause-residuals g c p old ws f followed =
-    let d = (goal.at.returns-then-first-eq1-clause-residuals g c).After-map_run in let s = c.args.run.settings.now in
-    let long : length c.map_run.new.residuals ≡ c.args.count = search rules in
-    let begins : c.args.y + c.args.x ≡ 0 = c.requires.first.start c.if-first-eq1.true in
-    ap (take c.args.count) (set-append_left c.map_run.new.residuals _ 0 c.first_residual.result (omega (arith, long)))
-    ∙ take_at _ _ _ (length-set c.map_run.new.residuals 0 c.first_residual.result ∙ long)
-    ∙ run_is p c.args.rows.now.image s.band (c.args.y * c.args.rows.now.image.shape.columns + c.args.x) c.args.count
-    (slice_set c.map_run.new.residuals 0 c.first_residual.result) (length-set c.map_run.new.residuals 0 c.first_residual.result ∙ long)
-    (with_first p s.predictor c.args.rows.now.image s.band c.args.y c.args.x c.first_residual.result c.map_run.new.residuals f.predictor begins
-    c.requires.place.column (omega (arith, long)) c.first_residual.ensures.value
-    (λ i l m. later_is g d p old ws f followed long i l (omega (arith, m, c.if-first-eq1.true))))
+    let d = (goal.at.returns-then-first-eq1-clause-residuals g c).After-map_run in let s = c.args.known.settings.now in let some = c.requires.run.some in
+    let is_first : c.args.run.now.first ≡ 1 = sym c.first.ensures ∙ c.if-first-eq1.true in
+    let long = long_enough g d in
+    let begins : c.args.run.now.y + c.args.run.now.x ≡ 0 = c.requires.run.first.start is_first in
+    set_taken c.args.run.now.count c.map_run.new.residuals c.first_residual.result
+    ∙ run_is p c.args.run.now.image s.band (c.args.run.now.y * c.args.run.now.image.shape.columns + c.args.run.now.x) c.args.run.now.count
+    (slice_set (take c.args.run.now.count c.map_run.new.residuals) 0 c.first_residual.result)
+    (length-set (take c.args.run.now.count c.map_run.new.residuals) 0 c.first_residual.result ∙ long)
+    (with_first p s.predictor c.args.run.now.image s.band c.args.run.now.y c.args.run.now.x c.first_residual.result (take c.args.run.now.count c.map_run.new.residuals) f.predictor begins
+    c.requires.run.place.column (omega (arith, long, some)) (rw (c.rows.ensures.image, c.y.ensures, c.x.ensures) at c.first_residual.ensures.value)
+    (λ i l m. later_is g d p old ws f followed i (omega (arith, l, long)) (omega (arith, m, is_first))))
 
 pub returns-else-first-eq1-clause-residuals : goal.returns-else-first-eq1-clause-residuals
 returns-else-first-eq1-clause-residuals g c p old ws f followed =
-    let d = (goal.at.returns-else-first-eq1-clause-residuals g c).After-map_run in let s = c.args.run.settings.now in
-    let long : length c.map_run.new.residuals ≡ c.args.count = search rules in
-    let none : c.args.first ≡ 0 = omega (arith, c.if-first-eq1.false, c.requires.first.most) in take_at _ _ _ long
-    ∙ run_is p c.args.rows.now.image s.band (c.args.y * c.args.rows.now.image.shape.columns + c.args.x) c.args.count c.map_run.new.residuals long
-    (λ i l. later_is g d p old ws f followed long i l (omega (arith, none)))
+    let d = (goal.at.returns-else-first-eq1-clause-residuals g c).After-map_run in let s = c.args.known.settings.now in
+    let long = long_enough g d in let other : c.args.run.now.first ≢ 1 = (λ e. c.if-first-eq1.false (c.first.ensures ∙ e)) in let most = c.requires.run.first.most in
+    run_is p c.args.run.now.image s.band (c.args.run.now.y * c.args.run.now.image.shape.columns + c.args.run.now.x) c.args.run.now.count (take c.args.run.now.count c.map_run.new.residuals) long
+    (λ i l. later_is g d p old ws f followed i (omega (arith, l, long)) (omega (arith, other, most)))

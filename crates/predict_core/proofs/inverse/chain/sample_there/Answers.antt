@@ -22,17 +22,17 @@ same_bits : (g : given.Over) (c : Start g) → c.args.settings.now.range.bits �
 same_bits g c = c.args.settings.now.range.bits_is ∙ ap (λ (k : SampleKind). k.bits) (sym c.requires.kind)
 
 module _ (g : given.Over) (c : After-put_west g) where
-  filled : c.put_west.new.components ≡ difference_vector c.args.settings.now.predictor c.args.cube.now c.args.settings.now.band c.args.y c.args.x
+  filled : c.put_west.new.components ≡ difference_vector c.args.settings.now.predictor c.args.cube.now c.args.settings.now.band c.args.place.y c.args.place.x
       ++ replicate (18 - c.args.settings.now.count) (pos 0)
   filled =
       let s = c.args.settings.now in
-      vector_filled s.predictor c.args.cube.now s.band c.args.y c.args.x (18 - s.count) c.args.components.now _ c.requires.lower c.put_west.ensures.reduced
+      vector_filled s.predictor c.args.cube.now s.band c.args.place.y c.args.place.x (18 - s.count) c.args.components.now _ c.requires.lower c.put_west.ensures.reduced
       c.put_west.ensures.full
 
   small : AllWithin (4 * 2 ^ c.args.settings.now.range.bits) c.put_west.new.components
   small =
       let s = c.args.settings.now in rw (filled, s.range.bits_is, ← c.requires.kind)
-      (padded_within s.predictor c.args.cube.now c.prove_is_cube.ensures c.args.y c.args.x (omega (arith, c.requires.later)) (rw c.requires.columns s.wide)
+      (padded_within s.predictor c.args.cube.now c.prove_is_cube.ensures c.args.place.y c.args.place.x (omega (arith, c.requires.later)) (rw c.requires.columns s.wide)
       s.band c.requires.place (18 - s.count))
 
 pub predicted_difference-part-requires-clause-differences_in : goal.predicted_difference-part-requires-clause-differences_in
@@ -48,10 +48,10 @@ update_by-requires-clause-differences_in g c =
 
 module _ (g : given.Over) (c : After-update_by g) where
   abbrev sum : ℤ
-  sum = local_sum c.args.settings.now.predictor c.args.cube.now c.args.settings.now.band c.args.y c.args.x
+  sum = local_sum c.args.settings.now.predictor c.args.cube.now c.args.settings.now.band c.args.place.y c.args.place.x
 
   -- the local sum, as the code computes it
-  sum_is : pos 4 *ℤ c.args.settings.now.range.smin +ℤ pos c.args.sum ≡ sum
+  sum_is : pos 4 *ℤ c.args.settings.now.range.smin +ℤ pos c.args.place.sum ≡ sum
   sum_is =
       let low : smin c.args.cube.now.kind ≡ c.args.settings.now.range.smin = ap smin c.requires.kind ∙ sym c.args.settings.now.range.smin_is in
       sym (rw low at c.requires.sum_is)
@@ -61,17 +61,17 @@ module _ (g : given.Over) (c : After-update_by g) where
       ≡ scaled_by_difference c.args.cube.now.kind c.predicted_difference-part.result sum
   by_difference =
       let r = c.args.settings.now.range in
-      rw (← sum_is, c.requires.kind) (rw (whole_sum r.smin c.args.sum r.low c.requires.sum_in) at c.predicted_difference-part.ensures.scaled)
+      rw (← sum_is, c.requires.kind) (rw (whole_sum r.smin c.args.place.sum r.low c.requires.sum_in) at c.predicted_difference-part.ensures.scaled)
 
 pub returns-clause-inverse : goal.returns-clause-inverse
 returns-clause-inverse g c =
     let d = (goal.at.returns-clause-inverse g c).After-update_by in
     let filled = filled g (goal.at.returns-clause-inverse g c).After-put_west in let s = c.args.settings.now in
     let fits : SFits w32 c.sample_by_part-found.result.0 = search rules in let part_fits : SFits w32 c.predicted_difference-part.result = search rules in
-    let scaled = scaled_from_room s.predictor c.args.cube.now s.band c.args.y c.args.x s.count g.row.N c.args.weights.now c.put_west.new.components
+    let scaled = scaled_from_room s.predictor c.args.cube.now s.band c.args.place.y c.args.place.x s.count g.row.N c.args.weights.now c.put_west.new.components
     c.prove_is_cube.ensures c.requires.place s.count_is c.requires.enough c.requires.few filled _ (by_difference g d) in
     let e = rw (← c.requires.kind, ← c.requires.sum_is, ← scaled) at (simp (to_z-of_z part_fits) at c.sample_by_part-found.ensures.inverse) in
-    let same = scaled_put c.args.cube.now s.band c.args.y c.args.x c.sample_by_part-found.result.0 c.requires.place c.prove_is_cube.ensures.whole s.predictor
+    let same = scaled_put c.args.cube.now s.band c.args.place.y c.args.place.x c.sample_by_part-found.result.0 c.requires.place c.prove_is_cube.ensures.whole s.predictor
     (rw c.requires.columns s.wide) (omega (arith, c.requires.later)) (take s.count c.args.weights.now) in rw (to_z-of_z fits, ← same) e
 
 pub returns-clause-weights : goal.returns-clause-weights
@@ -82,18 +82,18 @@ returns-clause-weights g c =
     let mask_fits : SFits w32 c.sample_by_part-found.result.1 = search rules in
     let sign_mask = rw (← s.range.smin_is) at (simp (to_z-of_z part_fits) at c.sample_by_part-found.ensures.sign) in
     let moved = rw sign_mask at (simp (to_z-of_z mask_fits) at c.update_by.ensures.value) in
-    let m = moved_from_room s.predictor c.args.cube.now s.band c.args.y c.args.x s.count g.row.N c.args.weights.now c.put_west.new.components
+    let m = moved_from_room s.predictor c.args.cube.now s.band c.args.place.y c.args.place.x s.count g.row.N c.args.weights.now c.put_west.new.components
     c.prove_is_cube.ensures c.requires.place s.count_is c.requires.enough c.requires.few filled _ (by_difference g d)
     c.update_by.new.weights found _ _ (rw (← c.requires.kind) at c.sample_by_part-found.ensures.range)
     (ap (λ v. pos 4 *ℤ found -ℤ v) (sum_is g d)) c.requires.steps.is moved in
     rw (to_z-of_z fits)
-    (moved_put c.args.cube.now s.band c.args.y c.args.x found c.requires.place c.prove_is_cube.ensures.whole s.predictor (rw c.requires.columns s.wide) _
+    (moved_put c.args.cube.now s.band c.args.place.y c.args.place.x found c.requires.place c.prove_is_cube.ensures.whole s.predictor (rw c.requires.columns s.wide) _
     (take s.count c.args.weights.now) _ _ (omega (arith, c.requires.later)) refl refl m)
 
 pub put_west-requires-clause-small : goal.put_west-requires-clause-small
 put_west-requires-clause-small g c =
     let s = c.args.settings.now in
-    open_within s.predictor c.args.cube.now c.prove_is_cube.ensures s.band c.args.y c.args.x c.requires.later (rw c.requires.columns s.wide) c.requires.place
+    open_within s.predictor c.args.cube.now c.prove_is_cube.ensures s.band c.args.place.y c.args.place.x c.requires.later (rw c.requires.columns s.wide) c.requires.place
     _ _ c.requires.directions c.requires.lower
 
 pub returns-clause-bound : goal.returns-clause-bound
