@@ -146,7 +146,7 @@ pub(crate) fn end_lanes<const Q: usize>(
     }
 }
 
-/// Returns the offset of each lane at column 0: that of lane b is in row 7 + b.
+/// Returns the offset of each lane at column 0, to which it comes a step after the lane before it.
 fn diagonal(numbers: &[[i32; 8]; 64]) -> [i32; 8]
     ensures { (b : ℕ) → b < 8 → lane result b ≡ place numbers.now (7 + b) b }
 {
