@@ -2,6 +2,7 @@ pub mod SameSamples
 pub mod Coded
 pub mod Inverted
 pub mod ErrorNumbers
+pub mod Remainders
 pub mod WaveParts
 pub mod WaveOffsets
 pub mod WaveLanes

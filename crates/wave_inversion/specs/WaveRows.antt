@@ -1,13 +1,13 @@
 -- Lines of eight bands, each a column further to the left than the one before, and the rows that they are turned into.
-use Rattle.std.specs.Prelude.{ℕ, ◌≡◌, ◌⊎◌, ◌+◌, ◌-◌, ◌^◌, ◌<◌, ◌≤◌, min, ℤ, pos, ◌-ℤ◌, ◌*ℤ◌, List, length, slice_index}
+use Rattle.std.specs.Prelude.{ℕ, ◌≡◌, ◌⊎◌, ◌+◌, ◌-◌, ◌^◌, ◌<◌, ◌≤◌, min, ℤ, pos, ◌-ℤ◌, ◌*ℤ◌, ◌≤ℤ◌, Bool, List, length, slice_index}
 use Rattle.std.specs.Int.{w16, cast_unsigned}
 use Rattle.cube_core.specs.Image.{Image}
-use Rattle.lanes.specs.Lanes.{place}
+use Rattle.lanes.specs.Lanes.{lane, place}
 use Rattle.predict_core.specs.Following.{PredictorState}
 use Rattle.predict_core.specs.BandLanes.{HasWeights}
 use Rattle.wave_inversion.specs.Inversion.{band_at}
 use Rattle.predict_core.specs.Offsets.{number_at}
-use Rattle.wave_inversion.specs.Wave.{AreOffsetRows, AreRowsBelow, sum_at}
+use Rattle.wave_inversion.specs.Wave.{AreOffsetRows, AreRowsBelow, sum_at, sum_by}
 use Rattle.wave_inversion.specs.WaveForms.{WaveForm}
 use Rattle.wave_inversion.specs.WaveLanes.{column_at, column_within}
 
@@ -22,12 +22,12 @@ pub record IsSkewed (row : List ℕ) (origin back : ℕ) (line : ℕ → ℤ) : 
   pub each : (i : ℕ) → i < 64
       → (line i ≡ pos 0) ⊎ ((x : ℕ) × (x < length row) × (line i ≡ pos (slice_index row x)))
 
--- line b of eight has at place i the offset at column origin + below + i - 7 - b of row y of the band so many below band first + b, and after the last column that of
+-- number i of line b of eight is the offset at column origin + below + i - 7 - b of row y of the band so many below band first + b, and after the last column that of
 -- the last one once more, or 0 where there is no such band; lines before number `least` have numbers without meaning
-pub record AreLinesOf (c : Image) (first below least y origin : ℕ) (lines : List (List ℤ)) : Type 0 where
+pub record AreLinesOf (c : Image) (first below least y origin : ℕ) (number : ℕ → ℕ → ℤ) : Type 0 where
   pub numbers : (b i : ℕ) → b < 8 → i < 64 → least ≤ b → below ≤ first + b → first + b < c.shape.bands + below → 7 + b ≤ origin + below + i → column_at (origin + below) i b ≤ c.shape.columns
-      → place lines b i ≡ pos (number_at c (first + b - below) y (column_within c.shape.columns (column_at (origin + below) i b)))
-  pub none : (b i : ℕ) → b < 8 → i < 64 → least ≤ b → first + b < below → place lines b i ≡ pos 0
+      → number b i ≡ pos (number_at c (first + b - below) y (column_within c.shape.columns (column_at (origin + below) i b)))
+  pub none : (b i : ℕ) → b < 8 → i < 64 → least ≤ b → first + b < below → number b i ≡ pos 0
 
 -- row i of 64 has in lane b the offset at column origin + below + i - 7 - b of row y of the band so many below band first + b, and after the last column that of
 -- the last one once more, or 0 where there is no such band; in lanes before number `least` it has numbers without meaning
@@ -35,6 +35,15 @@ pub record AreRowsOf (c : Image) (first below least y origin : ℕ) (rows : List
   pub numbers : (i b : ℕ) → i < 64 → b < 8 → least ≤ b → below ≤ first + b → first + b < c.shape.bands + below → 7 + b ≤ origin + below + i → column_at (origin + below) i b ≤ c.shape.columns
       → place rows i b ≡ pos (number_at c (first + b - below) y (column_within c.shape.columns (column_at (origin + below) i b)))
   pub none : (i b : ℕ) → i < 64 → b < 8 → least ≤ b → first + b < below → place rows i b ≡ pos 0
+
+-- each of eight lines of 16 bits from number `least` on holds numbers up to a limit, read without a sign
+abbrev pub AreLinesWithin : ℕ → ℤ → List (List ℤ) → Type 0
+AreLinesWithin least limit lines = (b i : ℕ) → least ≤ b → b < 8 → i < 64 → without_sign (place lines b i) ≤ℤ limit
+
+-- the central difference at place i of a line of offsets, below another, both read without a sign
+abbrev pub central_along : Bool → List ℤ → List ℤ → ℕ → ℤ
+central_along column numbers above i = pos 4 *ℤ without_sign (lane numbers i) -ℤ sum_by column (without_sign (lane numbers (i - 1)))
+    (without_sign (lane above (i - 1))) (without_sign (lane above i)) (without_sign (lane above (i + 1)))
 
 -- what a wavefront has before its first step: the offsets here and in the row above, the central differences of the bands and of those below them, and the weights
 pub record AreFilled (q : ℕ) (f : WaveForm) (c : Image) (bands : List PredictorState) (first y origin : ℕ) (above numbers lower own weights : List (List ℤ))

@@ -1,6 +1,7 @@
 //! A wavefront in lanes of 32 bits, for samples, weights and exponents that 16 bits don't hold.
 
 pub(crate) mod begin;
+pub(crate) mod central_lines;
 pub(crate) mod centrals;
 pub(crate) mod collect;
 pub(crate) mod components;

@@ -3,7 +3,7 @@
 use crate::long::room::LongWaveRoom;
 use crate::room::WaveRoom;
 
-/// Room for a piece of a row of eight bands. It takes some 47 KB.
+/// Room for a piece of a row of eight bands. It takes some 44 KB.
 #[derive(Clone, Copy)]
 pub(crate) struct WaveRooms {
     pub narrow: WaveRoom,

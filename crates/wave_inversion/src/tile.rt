@@ -15,7 +15,7 @@ use crate::collect::collect;
 use crate::finish::{ended_of, finish_lanes};
 use crate::form::Form;
 use crate::room::WaveRoom;
-use crate::rows::{fill_lines, fill_rows};
+use crate::rows::{fill_narrow_lines, fill_rows};
 use cube_core::cube::Cube;
 use lanes::turn::turn;
 use predict_core::band::Band;
@@ -129,8 +129,8 @@ fn fill_room<const Q: usize>(
     // No component is of a band further below than the previous ones.
     let least = 8 - form.previous;
     let above = &mut room.lines_above;
-    fill_lines(cube, first, 8, least, y, origin, lines);
-    fill_lines(cube, first, 8, least, y - 1, origin, above);
+    fill_narrow_lines(cube, first, 8, least, y, origin, lines);
+    fill_narrow_lines(cube, first, 8, least, y - 1, origin, above);
     fill_central_lines(form, least, lines, above, &mut room.central_lines);
     turn(&room.central_lines, &mut room.lower);
     fill_centrals(form, 8, &room.numbers, &room.above, &mut room.own);

@@ -4,7 +4,7 @@
 ghost use Rattle.std.specs.Prelude.{◌≡◌, ◌≢◌, ◌+◌, ◌^◌, ◌<◌, ◌-◌, ◌*◌, ◌≤◌, ℕ, min, length, take};
 ghost use Rattle.cube_core.specs.Image.{Image};
 ghost use Rattle.header_bits.specs.declared.params.Params.{Params as Parameters};
-ghost use Rattle.lanes.specs.Lanes.{place};
+ghost use Rattle.lanes.specs.Lanes.{lane, place};
 ghost use Rattle.band_lanes.specs.Rows.{weights_of};
 ghost use Rattle.sample_prediction.specs.Bounds.{AllWithin};
 ghost use Rattle.sample_prediction.specs.Chain.{AreWeightsAt};
@@ -93,7 +93,7 @@ fn begin_lanes<const Q: usize>(
         → AreInStep Q p s d first y 0 last 1 8 room.old.numbers room.old.own room.old.weights
         → AreInStep Q p s d first y 0 last (lane_count bands.now first) (7 + lane_count bands.now first) room.new.numbers room.new.own room.new.weights }
 {
-    let start = room.numbers;
+    let start = diagonal(&room.numbers);
     let many = lane_count(bands, first);
     for b in 1..many {
         let step = Stretch {
@@ -146,15 +146,26 @@ pub(crate) fn end_lanes<const Q: usize>(
     }
 }
 
+/// Returns the offset of each lane at column 0, to which it comes a step after the lane before it.
+fn diagonal(numbers: &[[i32; 8]; 64]) -> [i32; 8]
+    ensures { (b : ℕ) → b < 8 → lane result b ≡ place numbers.now (7 + b) b }
+{
+    let mut diagonal = [0i32; 8];
+    for b in 0..8usize {
+        diagonal[b] = numbers[7 + b][b];
+    }
+    diagonal
+}
+
 /// Writes number `b` of row `i` as it was.
-fn put_back(start: &[[i32; 8]; 64], i: usize, b: usize, numbers: &mut [[i32; 8]; 64])
+fn put_back(start: &[i32; 8], i: usize, b: usize, numbers: &mut [[i32; 8]; 64])
     requires row { i < 64 }
     requires lane { b < 8 }
-    ensures here { place numbers.new i b ≡ place start.now i b }
+    ensures here { place numbers.new i b ≡ lane start.now b }
     ensures rows { (k c : ℕ) → k ≢ i → place numbers.new k c ≡ place numbers.old k c }
     ensures lanes { (k c : ℕ) → c ≢ b → place numbers.new k c ≡ place numbers.old k c }
 {
-    put_number(start[i][b], i, b, numbers);
+    put_number(start[b], i, b, numbers);
 }
 
 /// `invert_places` by the form that a step asks for.

@@ -76,7 +76,7 @@ pub(crate) fn differences(offsets: &[i32; 8], sums: &[i32; 8]) -> [i32; 8]
 
 /// Returns four times an offset, less a local sum.
 #[inline(always)]
-fn difference_of(offset: i32, sum: i32) -> i32
+pub(crate) fn difference_of(offset: i32, sum: i32) -> i32
     requires offset_in { (pos 0 ≤ℤ offset) × (offset ≤ℤ pos 65535) }
     requires sum_in { (pos 0 ≤ℤ sum) × (sum ≤ℤ pos 262140) }
     ensures { result ≡ pos 4 *ℤ offset -ℤ sum }

@@ -11,15 +11,14 @@ pub(crate) struct LongWeightRows {
 
 /// Room for a piece of a row of eight bands, and for what is known of the eight bands below them.
 ///
-/// It takes some 22 KB, so it is made once and used for one piece after another. What it holds between them has no meaning.
+/// It takes some 19 KB, so it is made once and used for one piece after another. What it holds between them has no meaning.
 #[derive(Clone, Copy)]
 pub(crate) struct LongWaveRoom {
     pub lines: [[i16; 64]; 8],
+    pub lines_above: [[i16; 64]; 8],
     pub turned: [[i16; 8]; 64],
     pub numbers: [[i32; 8]; 64],
     pub above: [[i32; 8]; 64],
-    pub lower_numbers: [[i32; 8]; 64],
-    pub lower_above: [[i32; 8]; 64],
     pub lower: [[i32; 8]; 64],
     pub own: [[i32; 8]; 64],
     pub components: [[i32; 16]; MOST_PAIRS],
@@ -33,11 +32,10 @@ impl LongWaveRoom {
     pub(crate) fn new() -> LongWaveRoom {
         LongWaveRoom {
             lines: [[0; 64]; 8],
+            lines_above: [[0; 64]; 8],
             turned: [[0; 8]; 64],
             numbers: [[0; 8]; 64],
             above: [[0; 8]; 64],
-            lower_numbers: [[0; 8]; 64],
-            lower_above: [[0; 8]; 64],
             lower: [[0; 8]; 64],
             own: [[0; 8]; 64],
             components: [[0; 16]; MOST_PAIRS],

@@ -12,13 +12,14 @@ ghost use Rattle.wave_inversion.specs.WaveLanes.{AreLanes, AreInStep};
 
 use crate::long::form::LongForm;
 use crate::long::step::invert_place;
+use crate::long::weights::keep_rows;
 use crate::steps::Stretch;
 use band_lanes::pairs::MOST_PAIRS;
 
 /// Inverts the prediction of eight bands at some steps, as `invert_place` does at each.
 ///
 /// The first `n` lanes are those that have begun. The weights are kept in a copy of their own, so that the compiler can keep them in
-/// registers.
+/// registers, and only those of the first `Q` pairs are copied back, so that it copies no others at all.
 #[inline(never)]
 pub(crate) fn invert_places<const Q: usize, const REDUCED: bool, const RAISED: bool>(
     form: LongForm,
@@ -60,5 +61,5 @@ pub(crate) fn invert_places<const Q: usize, const REDUCED: bool, const RAISED: b
             &mut working,
         );
     }
-    *weights = working;
+    keep_rows::<Q>(&working, weights);
 }

@@ -11,12 +11,14 @@ ghost use Rattle.wave_inversion.specs.WaveTiles.{AreFound, IsFormOf, StandAsWave
 
 use crate::finish::{ended_of, finish_lanes};
 use crate::long::begin::{end_lanes, invert_steps};
+use crate::long::central_lines::fill_from_lines;
 use crate::long::centrals::fill_centrals;
 use crate::long::collect::collect;
 use crate::long::form::LongForm;
 use crate::long::room::LongWaveRoom;
 use crate::long::rows::fill_rows;
 use crate::long::weights::fill_weights;
+use crate::rows::fill_lines;
 use crate::tile::constants_of;
 use cube_core::cube::Cube;
 use predict_core::band::Band;
@@ -110,18 +112,14 @@ fn fill_room<const Q: usize>(
 {
     cube.prove_is_cube();
     fill_weights::<Q>(bands, first, &mut room.weights);
-    fill_rows(cube, first, 0, 0, y, origin, &mut room.numbers);
-    fill_rows(cube, first, 0, 0, y - 1, origin, &mut room.above);
+    let (lines, turned) = (&mut room.lines, &mut room.turned);
+    fill_rows(cube, first, y, origin, lines, turned, &mut room.numbers);
+    fill_rows(cube, first, y - 1, origin, lines, turned, &mut room.above);
     // No component is of a band further below than the previous ones.
     let least = 8 - form.previous;
-    fill_rows(cube, first, 8, least, y, origin, &mut room.lower_numbers);
-    fill_rows(cube, first, 8, least, y - 1, origin, &mut room.lower_above);
-    fill_centrals(
-        form,
-        63,
-        &room.lower_numbers,
-        &room.lower_above,
-        &mut room.lower,
-    );
+    let above = &mut room.lines_above;
+    fill_lines(cube, first, 8, least, y, origin, lines);
+    fill_lines(cube, first, 8, least, y - 1, origin, above);
+    fill_from_lines(form, least, lines, above, &mut room.lower);
     fill_centrals(form, 8, &room.numbers, &room.above, &mut room.own);
 }

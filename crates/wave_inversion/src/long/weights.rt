@@ -93,6 +93,19 @@ fn set_number(number: i32, k: usize, row: &mut [i32; 16])
     row[k] = number;
 }
 
+/// Keeps the first `Q` rows of pairs, which have all weights.
+pub(crate) fn keep_rows<const Q: usize>(
+    rows: &[[i32; 16]; MOST_PAIRS],
+    kept: &mut [[i32; 16]; MOST_PAIRS],
+)
+    requires few { Q ≤ 9 }
+    ensures { (b : ℕ) → weights_of Q b kept.new ≡ weights_of Q b rows.now }
+{
+    for j in 0..Q {
+        kept[j] = rows[j];
+    }
+}
+
 /// Replaces the first 2·`Q` weights by those of band `b`.
 pub(crate) fn take_weights<const Q: usize>(
     rows: &[[i32; 16]; MOST_PAIRS],

@@ -2,6 +2,7 @@ use Rattle.std.proofs.Common.{◌≡◌, ◌∙◌, ◌+◌, ◌-◌, ◌*◌, �
 use Rattle.std.proofs.lemmas.Bool.{cases_lt}
 use Rattle.std.specs.List.{slice_index}
 use Rattle.lanes.specs.Lanes.{lane}
+use Rattle.wave_inversion.specs.WaveRows.{without_sign}
 use Rattle.wave_inversion.proofs.rows.put_eights.Goals as goal
 
 pub loop-k-preserved : goal.loop-k-preserved
@@ -9,11 +10,11 @@ loop-k-preserved c =
     let k = c.loop-k.k in let first = c.args.first in let from = c.args.from in
     let kept = c.loop-k.invariant in let put = c.put_eight.ensures in record {
       numbers = λ i lt small. elim (cases_lt i (8 * k)) [
-        | inl before ↦ put.others (first + i) (λ h. omega (arith, h, before)) ∙ kept.numbers i before small
+        | inl before ↦ ap without_sign (put.others (first + i) (λ h. omega (arith, h, before))) ∙ kept.numbers i before small
         | inr after ↦
             let step : first + i ≡ first + 8 * k + (i - 8 * k) = omega (arith, after) in
             let column : from + 8 * k + (i - 8 * k) ≡ from + i = omega (arith, after) in
-            ap (λ (n : ℕ). lane c.put_eight.new.line n) step
+            ap (λ (n : ℕ). without_sign (lane c.put_eight.new.line n)) step
             ∙ put.numbers (i - 8 * k) (omega (arith, lt, after))
             ∙ ap (λ (x : ℕ). pos (slice_index c.args.row.now x)) column
       ];
@@ -27,11 +28,11 @@ returns-clause-numbers c i lt =
     let done : c.loop-k.k ≡ (count - 1) / 8 = omega (arith, c.loop-k-test.false, c.loop-k.auto.k-end) in
     let put = c.put_eight-2.ensures in
     elim (cases_lt i (count - 8)) [
-      | inl before ↦ put.others (first + i) (λ h. omega (arith, h, before, many)) ∙ c.loop-k.invariant.numbers i (omega (arith, done, before, many)) lt
+      | inl before ↦ ap without_sign (put.others (first + i) (λ h. omega (arith, h, before, many))) ∙ c.loop-k.invariant.numbers i (omega (arith, done, before, many)) lt
       | inr after ↦
           let step : first + i ≡ first + count - 8 + (i - (count - 8)) = omega (arith, after, many) in
           let column : from + count - 8 + (i - (count - 8)) ≡ from + i = omega (arith, after, many) in
-          ap (λ (n : ℕ). lane c.put_eight-2.new.line n) step
+          ap (λ (n : ℕ). without_sign (lane c.put_eight-2.new.line n)) step
           ∙ put.numbers (i - (count - 8)) (omega (arith, lt, after, many))
           ∙ ap (λ (x : ℕ). pos (slice_index c.args.row.now x)) column
     ]

@@ -2,6 +2,7 @@ use Rattle.std.proofs.Common.{◌≡◌, ◌∙◌, ◌+◌, ◌-◌, ◌<◌, �
 use Rattle.std.proofs.lemmas.Bool.{cases_lt, cases_eq}
 use Rattle.std.specs.List.{slice_index}
 use Rattle.wave_inversion.specs.WaveLanes.{column_within}
+use Rattle.wave_inversion.specs.WaveRows.{without_sign}
 use Rattle.wave_inversion.proofs.rows.skew.Goals as goal
 use Rattle.wave_inversion.proofs.rows.skew.Goals.{After-repeat_last}
 
@@ -16,21 +17,21 @@ module _ (c : After-repeat_last) where
   count = c.min-count.result
 
   -- a place among those that are copied
-  copied : (i : ℕ) → first ≤ i → i - first < count → get_or c.repeat_last.new.line i (pos 0) ≡ pos (slice_index c.args.row.now (from + (i - first)))
+  copied : (i : ℕ) → first ≤ i → i - first < count → without_sign (get_or c.repeat_last.new.line i (pos 0)) ≡ pos (slice_index c.args.row.now (from + (i - first)))
   copied i low lt =
       let at : first + (i - first) ≡ i = omega (arith, low) in
-      c.repeat_last.ensures.others i (λ e. omega (arith, e, low, lt)) ∙ sym (ap (λ (k : ℕ). get_or c.put_numbers.new.line k (pos 0)) at)
+      ap without_sign (c.repeat_last.ensures.others i (λ e. omega (arith, e, low, lt)) ∙ sym (ap (λ (k : ℕ). get_or c.put_numbers.new.line k (pos 0)) at))
       ∙ c.put_numbers.ensures.numbers (i - first) lt
 
   -- the one after them
-  repeated : (i : ℕ) → i < 64 → first + count ≡ i → get_or c.repeat_last.new.line i (pos 0) ≡ pos (slice_index c.args.row.now (length c.args.row.now - 1))
-  repeated i small at = ap (λ (k : ℕ). get_or c.repeat_last.new.line k (pos 0)) (sym at) ∙ c.repeat_last.ensures.here (omega (arith, at, small))
+  repeated : (i : ℕ) → i < 64 → first + count ≡ i → without_sign (get_or c.repeat_last.new.line i (pos 0)) ≡ pos (slice_index c.args.row.now (length c.args.row.now - 1))
+  repeated i small at = ap (λ (k : ℕ). without_sign (get_or c.repeat_last.new.line k (pos 0))) (sym at) ∙ c.repeat_last.ensures.here (omega (arith, at, small))
 
   -- and one beside all of these
-  beside : (i : ℕ) → i < 64 → (first ≤ i → first + count < i) → get_or c.repeat_last.new.line i (pos 0) ≡ pos 0
+  beside : (i : ℕ) → i < 64 → (first ≤ i → first + count < i) → without_sign (get_or c.repeat_last.new.line i (pos 0)) ≡ pos 0
   beside i small apart =
-      c.repeat_last.ensures.others i (λ e. (let far = apart (omega (arith, e)) in omega (arith, e, far)))
-      ∙ c.put_numbers.ensures.others i (λ h. (let far = apart h in omega (arith, far))) ∙ c.clear_line.ensures i small
+      ap without_sign (c.repeat_last.ensures.others i (λ e. (let far = apart (omega (arith, e)) in omega (arith, e, far)))
+      ∙ c.put_numbers.ensures.others i (λ h. (let far = apart h in omega (arith, far))) ∙ c.clear_line.ensures i small)
 
   column_is : (i : ℕ) → i < 64 → first ≤ i → i - first < count → from + (i - first) ≡ c.args.origin + i - c.args.back
       → from + (i - first) ≡ column_within (length c.args.row.now) (c.args.origin + i - c.args.back)

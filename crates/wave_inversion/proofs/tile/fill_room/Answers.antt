@@ -4,6 +4,7 @@ use Rattle.std.specs.List.{slice_get}
 use Rattle.std.proofs.lemmas.Int.{ints}
 use Rattle.std.proofs.lemmas.List.{get_or-take, get_or-drop}
 use Rattle.std.proofs.lemmas.Option.{slice_get-get_or}
+use Rattle.lanes.specs.Lanes.{place}
 use Rattle.wave_inversion.specs.declared.form.Form.{Form}
 use Rattle.predict_core.specs.Following.{PredictorState}
 use Rattle.predict_core.specs.Following.{no_band}
@@ -41,11 +42,11 @@ module _ (g : given.Over) (c : After-fill_rows-2 g) where
 
 pub fill_central_lines-requires-clause-numbers_in : goal.fill_central_lines-requires-clause-numbers_in
 fill_central_lines-requires-clause-numbers_in g c =
-    subst (λ n. AreOffsetLines (8 - c.args.form.previous) n c.fill_lines.new.lines) (greatest_is c.args.form _ c.requires.form.bits) c.fill_lines.ensures.within
+    subst (λ n. AreOffsetLines (8 - c.args.form.previous) n c.fill_narrow_lines.new.lines) (greatest_is c.args.form _ c.requires.form.bits) c.fill_narrow_lines.ensures.within
 
 pub fill_central_lines-requires-clause-above_in : goal.fill_central_lines-requires-clause-above_in
 fill_central_lines-requires-clause-above_in g c =
-    subst (λ n. AreOffsetLines (8 - c.args.form.previous) n c.fill_lines-2.new.lines) (greatest_is c.args.form _ c.requires.form.bits) c.fill_lines-2.ensures.within
+    subst (λ n. AreOffsetLines (8 - c.args.form.previous) n c.fill_narrow_lines-2.new.lines) (greatest_is c.args.form _ c.requires.form.bits) c.fill_narrow_lines-2.ensures.within
 
 pub fill_centrals-requires-clause-numbers_in : goal.fill_centrals-requires-clause-numbers_in
 fill_centrals-requires-clause-numbers_in g c = numbers_in g (goal.at.fill_centrals-requires-clause-numbers_in g c).After-fill_rows-2
@@ -56,14 +57,16 @@ fill_centrals-requires-clause-above_in g c = above_in g (goal.at.fill_centrals-r
 pub returns : goal.returns
 returns g c said =
     let d = (goal.at.returns g c).After-fill_rows-2 in record {
-      lower_numbers = turned c.fill_lines.new.lines (8 - c.args.form.previous);
-      lower_above = turned c.fill_lines-2.new.lines (8 - c.args.form.previous);
+      lower_numbers = turned (λ b i. place c.fill_narrow_lines.new.lines b i) (8 - c.args.form.previous);
+      lower_above = turned (λ b i. place c.fill_narrow_lines-2.new.lines b i) (8 - c.args.form.previous);
       above_is = c.fill_rows-2.ensures.numbers;
       numbers_is = c.fill_rows.ensures.numbers;
-      lower_numbers_is = rows_of_lines c.fill_lines.ensures.numbers;
-      lower_above_is = rows_of_lines c.fill_lines-2.ensures.numbers;
-      lower_is = centrals_of_lines c.args.form.column c.fill_lines.new.lines c.fill_lines-2.new.lines c.fill_central_lines.new.out c.turn.new.rows
-          (8 - c.args.form.previous) c.fill_central_lines.ensures.values c.fill_central_lines.ensures.none c.turn.ensures;
+      lower_numbers_is = rows_of_lines (λ b i. place c.fill_narrow_lines.new.lines b i) c.fill_narrow_lines.ensures.numbers;
+      lower_above_is = rows_of_lines (λ b i. place c.fill_narrow_lines-2.new.lines b i) c.fill_narrow_lines-2.ensures.numbers;
+      lower_is = centrals_of_lines c.args.form.column (λ b i. place c.fill_narrow_lines.new.lines b i) (λ b i. place c.fill_narrow_lines-2.new.lines b i)
+          c.turn.new.rows (8 - c.args.form.previous)
+          (λ b i m used low high. c.turn.ensures i b (omega (arith, high)) m ∙ c.fill_central_lines.ensures.values b i m used low high)
+          (λ b i m l before. c.turn.ensures i b l m ∙ c.fill_central_lines.ensures.none b i m l before);
       own_is = c.fill_centrals.ensures.values;
       has = λ b fits.
           c.fill_weights.ensures c.if-not-fill_weights.false b (band_at c.args.bands.now (min (c.args.first + b) (length c.args.bands.now - 1))) fits

@@ -28,7 +28,7 @@ loop-b-preserved g c =
         | inr apart ↦ rw (put.lanes i k apart) (did.numbers_in i k l m)
         | inl lane ↦ elim (cases_eq i (7 + b)) [
           | inr apart ↦ rw (put.rows i k apart) (did.numbers_in i k l m)
-          | inl row ↦ rw (row, lane, put.here) (c.requires.numbers_in (7 + b) b (omega (arith, fits)) fits)
+          | inl row ↦ rw (row, lane, put.here, c.diagonal-start.ensures b fits) (c.requires.numbers_in (7 + b) b (omega (arith, fits)) fits)
         ]
       ];
       own_in = did.own_in;
@@ -41,7 +41,7 @@ loop-b-preserved g c =
           let next : 8 + b ≡ 7 + (b + 1) = omega arith in
           let after = did.inverted p s d c.args.first y 0 last b (rw (kept.above, kept.lower) lanes) (omega (arith, fits, more)) (omega (arith, fits), omega arith) now in
           subst (λ (k : ℕ). AreInStep g.row.Q p s d c.args.first y 0 last (b + 1) k c.put_back.new.numbers c.invert_by.new.room.own c.put_band.new.rows) next
-          (lane_begins b (8 + b) fits refl begin has c.put_band.ensures.others put.here put.rows put.lanes after);
+          (lane_begins b (8 + b) fits refl begin has c.put_band.ensures.others (put.here ∙ c.diagonal-start.ensures b fits) put.rows put.lanes after);
     }
 
 pub returns-clause-inverted : goal.returns-clause-inverted

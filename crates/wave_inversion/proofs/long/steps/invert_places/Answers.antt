@@ -17,8 +17,16 @@ loop-k-preserved g c =
           kept.long kept.weights_in (kept.inverted p s d first y origin last n lanes fits begun start);
     }
 
+pub returns-clause-weights_in : goal.returns-clause-weights_in
+returns-clause-weights_in g c b l = rw (c.keep_rows.ensures b) (c.loop-k.invariant.weights_in b l)
+
 pub returns-clause-inverted : goal.returns-clause-inverted
 returns-clause-inverted g c p s d first y origin last n lanes fits begun start =
     let done : c.loop-k.k ≡ c.args.stretch.to = (let e = c.loop-k.auto.k-end c.args.stretch.inside.1 in let f = c.loop-k-test.false in omega (arith, e, f)) in
-    subst (λ k. AreInStep g.row.Q p s d first y origin last n k c.loop-k.numbers c.loop-k.own c.loop-k.working) done
-    (c.loop-k.invariant.inverted p s d first y origin last n lanes fits begun start)
+    let found = subst (λ k. AreInStep g.row.Q p s d first y origin last n k c.loop-k.numbers c.loop-k.own c.loop-k.working) done
+    (c.loop-k.invariant.inverted p s d first y origin last n lanes fits begun start) in record {
+      offsets = found.offsets;
+      residuals = found.residuals;
+      centrals = found.centrals;
+      weights_at = λ b l exists column. rw (c.keep_rows.ensures b) (found.weights_at b l exists column);
+    }

@@ -14,10 +14,7 @@ loop-b-preserved c =
     let part : SFits w32 (lane c.args.parts.now b) = search rules in
     let sum : SFits w32 (lane c.args.sums.now b) = search rules in
     let residual : SFits w32 (lane c.args.residuals.now b) = search rules in
-    let twice : SFits w32 c.scaled_offset.result = search rules in
-    let fit = c.requires.sums_in b c.loop-b-test.true in
-    let scaled = simp (to_z-of_z part, to_z-of_z sum, greatest) at c.scaled_offset.ensures.value (c.requires.parts_in b c.loop-b-test.true) fit.0 fit.1 in
-    let value = rw scaled at (simp (to_z-of_z twice, to_z-of_z residual, greatest) at c.offset_at.ensures.value) in
+    let value = simp (to_z-of_z part, to_z-of_z sum, to_z-of_z residual, greatest) at c.offset_at.ensures.value in
     let range = simp greatest at c.offset_at.ensures.range in
     rw (to_z-of_z fits, greatest) (record {
       long = length-set c.loop-b.offsets b c.offset_at.result ∙ kept.long;
