@@ -1,10 +1,10 @@
 -- Samples from what a mapped residual leaves of the scaled prediction.
-use Rattle.std.proofs.Common.{◌≡◌, ◌⊎◌, ◌∙◌, ◌+◌, ◌*◌, ◌/◌, ◌%◌, ◌<◌, ◌≤◌, ℕ, ℤ, pos, negsuc, ◌+ℤ◌, ◌-ℤ◌, ◌*ℤ◌, ◌≤ℤ◌, unsigned_abs, inl, inr, arith, refl}
+use Rattle.std.proofs.Common.{◌≡◌, ◌⊎◌, ◌∙◌, ◌+◌, ◌*◌, ◌/◌, ◌%◌, ◌<◌, ℕ, ℤ, pos, negsuc, ◌+ℤ◌, ◌-ℤ◌, ◌*ℤ◌, ◌≤ℤ◌, unsigned_abs, inl, inr, arith, refl}
 use Rattle.std.specs.Int.{int_max, int_min}
 use Rattle.std.proofs.lemmas.Bool.{cases_lt}
 use Rattle.std.proofs.lemmas.Int.{ints, clamps}
 use Rattle.sample_prediction.specs.Arithmetic.{floor_div, clip}
-use Rattle.sample_prediction.specs.Mapping.{error_of, unmapped_between}
+use Rattle.sample_prediction.specs.Mapping.{unmapped_between}
 use Rattle.sample_prediction.specs.Residual.{theta_between}
 use Rattle.sample_prediction.proofs.OneSample.{unmapped_is}
 use Rattle.wave_inversion.proofs.ErrorNumbers.{far_error, near_error}

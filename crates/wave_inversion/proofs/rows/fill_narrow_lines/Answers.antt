@@ -1,4 +1,4 @@
-use Rattle.std.proofs.Common.{◌≡◌, ◌^◌, ◌<◌, ◌≤◌, ℕ, ℤ, pos, ◌-ℤ◌, ◌≤ℤ◌, arith, pow_mono}
+use Rattle.std.proofs.Common.{◌^◌, ◌≤◌, ℤ, pos, ◌-ℤ◌, ◌≤ℤ◌, arith, pow_mono}
 use Rattle.std.proofs.lemmas.Int.{ints}
 use Rattle.lanes.specs.Lanes.{place}
 use Rattle.wave_inversion.specs.WaveRows.{without_sign}

@@ -1,8 +1,8 @@
-use Rattle.std.proofs.Common.{◌≡◌, ◌⊎◌, ◌∙◌, ◌+◌, ◌*◌, ◌^◌, ◌<◌, ◌≤◌, ℕ, ℤ, pos, negsuc, ◌+ℤ◌, ◌-ℤ◌, ◌*ℤ◌, ◌≤ℤ◌, unsigned_abs, inl, inr, arith, rules, w32, to_z, of_z, to_z-of_z, SFits, int_lt, true, false}
+use Rattle.std.proofs.Common.{◌≡◌, ◌∙◌, ◌≤◌, ℕ, ℤ, pos, ◌+ℤ◌, ◌-ℤ◌, ◌*ℤ◌, ◌≤ℤ◌, unsigned_abs, inl, inr, arith, rules, w32, to_z, of_z, to_z-of_z, SFits, int_lt, true, false}
 use Rattle.std.specs.Int.{int_min, int_max}
 use Rattle.std.proofs.lemmas.Bool.Decides.{nat_tests}
 use Rattle.std.proofs.lemmas.Int.{ints, clamps}
-use Rattle.sample_prediction.specs.Arithmetic.{floor_div, clip}
+use Rattle.sample_prediction.specs.Arithmetic.{floor_div}
 use Rattle.sample_prediction.specs.Mapping.{unmapped_between}
 use Rattle.sample_prediction.proofs.OneSample.{sample_in}
 use Rattle.wave_inversion.proofs.Remainders.{clipped_at, downwards, halves, parity, upwards}
