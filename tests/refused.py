@@ -91,6 +91,8 @@ MANY = ["--columns", 6, "--rows", 8, "--bands", 45, "--bits", 12]
 # The same raw bytes as a scene of enough rows for residuals to take the samples' place, and as one of so few that planes of residuals are kept instead.
 HIGH = ["--columns", 24, "--rows", 18, "--bands", 5, "--bits", 12]
 FLAT = ["--columns", 60, "--rows", 4, "--bands", 9, "--bits", 12]
+# The same raw bytes as a scene of so many rows that each is copied before it is predicted.
+TALL = ["--columns", 4, "--rows", 90, "--bands", 6, "--bits", 12]
 BLOCKS = ["--coder", "block", "--block", 8, "--reference", 4]
 
 # The words of each command, and the lines that it may print on standard error when an allocation is refused, apart from none.
@@ -100,6 +102,8 @@ COMMANDS = {
     "compress, in place": (["compress", *HIGH, "scene.raw", "out"], [MEMORY]),
     "compress, in place, block-adaptive": (["compress", *HIGH, *BLOCKS, "scene.raw", "out"], [MEMORY]),
     "compress, by planes of residuals": (["compress", *FLAT, "scene.raw", "out"], [MEMORY]),
+    "compress, rows copied": (["compress", *TALL, "--order", "bi", "--depth", 6, "scene.raw", "out"], [MEMORY]),
+    "compress, rows copied, block-adaptive": (["compress", *TALL, *BLOCKS, "--order", "bi", "--depth", 4, "scene.raw", "out"], [MEMORY]),
     "compress, row by row": (["compress", *SIZES, "--layout", "bil", "--order", "bi", "scene.raw", "out"], [MEMORY]),
     "compress, row by row, block-adaptive": (
         ["compress", *SIZES, *BLOCKS, "--layout", "bip", "--order", "bi", "--depth", 6, "scene.raw", "out"],

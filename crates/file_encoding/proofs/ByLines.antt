@@ -93,7 +93,7 @@ module _ (c d : Image) (n : ℕ) (rows : HaveSameRows c d n) where
           ∙ row_there (i * depth) (min depth (c.shape.bands - i * depth)) (λ k lt. omega (arith, lt))
           ∙ sym (ap (λ zs. row_of p d zs y) (own_all (group c.shape depth i)))
 
-      line_there : (depth : ℕ) → line_of p c 0 [] depth y ≡ line_of p d 0 [] depth y
+      pub line_there : (depth : ℕ) → line_of p c 0 [] depth y ≡ line_of p d 0 [] depth y
       unfolding line_of
       line_there depth =
           same_lists (λ i. row_of p c (own 0 [] (group c.shape depth i)) y) (λ i. row_of p d (own 0 [] (group c.shape depth i)) y) 0 0

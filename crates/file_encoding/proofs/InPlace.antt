@@ -5,14 +5,10 @@ use Rattle.std.specs.List.{flat_map, AllByRecursion}
 use Rattle.std.proofs.Math.Seq.{take-append_seam, drop-append_seam}
 use Rattle.std.proofs.lemmas.Bool.{cases_lt}
 use Rattle.std.proofs.lemmas.Int.{ints}
-use Rattle.std.proofs.lemmas.List.Elements.{recursion_from_All}
-use Rattle.std.proofs.lemmas.Grind.{get_or_default_zero}
-use Rattle.std.proofs.lemmas.List.{get_or_append_left, get_or-append_right, get_or-take, get_or-drop}
 use Rattle.std.proofs.lemmas.Nat.{pow_pos}
 use Rattle.cube_core.specs.Shape.{Sizes}
 use Rattle.cube_core.specs.Kind.{SampleKind, sample_of, smin}
 use Rattle.cube_core.specs.Image.{Image, IsCube, IsPlace, sample_at}
-use Rattle.cube_core.specs.Offsets.{AreRowOffsets}
 use Rattle.cube_core.specs.Order.{IsOrder, from, upto}
 use Rattle.cube_core.specs.Runs.{IsRunSet}
 use Rattle.cube_core.proofs.Lists.{length-from}
@@ -20,18 +16,17 @@ use Rattle.cube_core.specs.declared.order.Order.TheVariants.{Bsq}
 use Rattle.header_bits.specs.declared.params.Params.{Params}
 use Rattle.header_bits.specs.Lawful.{IsLawful}
 use Rattle.header_bits.proofs.Items.{all_append, all_first, all_last}
-use Rattle.sample_prediction.specs.HandedRows.{image_of_rows, index_by_rows, row_size}
+use Rattle.sample_prediction.specs.HandedRows.{image_of_rows, row_size}
 use Rattle.sample_prediction.specs.Residual.{residuals}
-use Rattle.sample_prediction.proofs.HandedRows.{image_is_cube, sample_by_rows}
-use Rattle.predict_core.specs.Following.{PredictorState}
+use Rattle.sample_prediction.proofs.HandedRows.{image_is_cube}
 use Rattle.predict_core.specs.Offsets.{number_at}
 use Rattle.predict_core.proofs.OneCube.{residuals_inside}
 use Rattle.file_encoding.specs.ByPlanes.{IsRow}
 use Rattle.file_encoding.specs.InPlace.{AreLinesSet, AreTurned, HasLinesAt, all_offsets, offsets_of}
 use Rattle.file_encoding.specs.Own.{own_residuals, row_of, rows_of}
-use Rattle.file_encoding.specs.Pieces.{row_start}
-use Rattle.file_encoding.specs.Walks.{IsSeen, AreAt}
-use Rattle.file_encoding.proofs.ByLines.{HaveSameRows, are_at_same, row_end, row_there}
+use Rattle.file_encoding.specs.Walks.{IsSeen}
+use Rattle.file_encoding.proofs.ByLines.{row_there}
+use Rattle.file_encoding.proofs.CopiedRows.{HasFirstLines, IsCopied, first_more, same}
 use Rattle.file_encoding.proofs.Encoding.{all_residuals, own_all}
 use Rattle.file_encoding.proofs.Sending.{all_items, from_split, same_lists, upto_rest, upto_split}
 
@@ -136,45 +131,6 @@ turned_more {p = p} {c = c} {d = d} {e = e} {y = y} {lines = lines} was set row 
       was.left z y' x place (omega (arith, after)) ∙ set.others z y' x (rw was.shape place) (λ here _. absurd (omega (arith, here, after)));
 }
 
--- ---- the image of the rows that were copied so far
-
--- the first n rows of an image are these
-abbrev pub HasFirstLines : Image → List ℕ → ℕ → Type 0
-HasFirstLines c rows n =
-    (z y x : ℕ) → IsPlace c.shape z y x → y < n → sample_at c z y x ≡ sample_of c.kind (get_or rows (index_by_rows c.shape z y x) 0)
-
-pub have_same : (p : Params) (c : Image) (rows : List ℕ) (n : ℕ) → IsSeen p c → HasFirstLines c rows n → HaveSameRows (image_of_rows p.shape p.kind rows) c n
-unfolding image_of_rows
-have_same p c rows n seen first = record {
-  alike = record { shape = sym seen.shape; kind = sym seen.kind };
-  same = λ z y x place lt.
-      sample_by_rows p.shape p.kind rows z y x place
-      ∙ sym (subst (λ (s : Sizes). sample_at c z y x ≡ sample_of p.kind (get_or rows (index_by_rows s z y x) 0)) seen.shape
-      (subst (λ (k : SampleKind). sample_at c z y x ≡ sample_of k (get_or rows (index_by_rows c.shape z y x) 0)) seen.kind
-      (first z y x (rw seen.shape place) lt)));
-}
-
-pub first_more : (c d : Image) (y : ℕ) (rows row : List ℕ) → length rows ≡ y * row_size c.shape → HasFirstLines c rows y → d.shape ≡ c.shape → d.kind ≡ c.kind
-    → ((z x : ℕ) → IsPlace c.shape z y x → sample_at c z y x ≡ sample_at d z y x) → HasLinesAt d y c.shape.bands row → HasFirstLines c (rows ++ row) (y + 1)
-first_more c d y rows row size first shape kind same lines z y' x place lt = elim (cases_lt y' y) [
-  | inl before ↦
-      first z y' x place before
-      ∙ sym (ap (sample_of c.kind) (get_or_append_left rows row 0 (index_by_rows c.shape z y' x) (omega (arith, size, row_end c.shape y z y' x place before))))
-  | inr after ↦
-      let is : y' ≡ y = omega (arith, lt, after) in
-      let columns : ℕ = c.shape.columns in
-      let here : index_by_rows c.shape z y x ≡ y * row_size c.shape + (z * columns + x) = grind arith in
-      let there : index_by_rows c.shape z y x - y * row_size c.shape ≡ z * columns + x = omega (arith, here) in
-      let width : d.shape.columns ≡ columns = ap (λ (s : Sizes). s.columns) shape in
-      let line : get_or (row_start columns z columns row) x 0 ≡ get_or (rows ++ row) (index_by_rows c.shape z y x) 0 =
-      get_or-take columns (drop (z * columns) row) x 0 place.column ∙ get_or-drop (z * columns) row x 0
-      ∙ ap (λ i. get_or row i 0) (sym there)
-      ∙ sym (get_or-append_right rows row (y * row_size c.shape) (index_by_rows c.shape z y x) 0 size (omega (arith, here))) in
-      let its : sample_at d z y x ≡ sample_of d.kind (get_or (row_start columns z columns row) x 0) =
-      (lines z place.band x (rw width place.column)).1 ∙ ap (λ w. sample_of d.kind (get_or (row_start w z w row) x 0)) width in
-      rw is (same z x (rw is at place) ∙ its ∙ ap₂ (λ (k : SampleKind) (n : ℕ). sample_of k n) kind line)
-]
-
 -- ---- residuals are in range
 
 pub row_range : (p : Params) (c : Image) → IsLawful p → p.order ≡ Bsq → IsSeen p c → IsCube c → (z y : ℕ) → z < p.shape.bands → y < p.shape.rows
@@ -208,14 +164,6 @@ all_turned p c d turned =
     same_lists (λ y. offsets_of d (0 + z) y) (λ y. row_of p c ((0 + z) ∷ []) y) 0 0 c.shape.rows (λ y row.
     turned.turned (0 + z) (0 + y) (omega (arith, band)) (omega (arith, row))))
     ∙ ap (flat_map (λ z. rows_of p c (z ∷ []))) (sym (own_all (upto c.shape.bands)))
-
--- ---- lines that a cube lends
-
-pub line_range : (p : Params) (c : Image) (z y : ℕ) (line : List ℕ) → IsSeen p c → length line ≡ c.shape.columns → AreRowOffsets c z y line
-    → AllByRecursion (λ v. v < 2 ^ p.kind.bits) line
-line_range p c z y line seen long are =
-    recursion_from_All (λ v. v < 2 ^ p.kind.bits) line (λ i d lt.
-    rw (get_or_default_zero line i d lt) (subst (λ (k : SampleKind). get_or line i 0 < 2 ^ k.bits) seen.kind ((are i (omega (arith, lt, long))).0)))
 
 -- ---- some of the bands
 
@@ -251,30 +199,14 @@ module _ {p : Params} {c d : Image} {y : ℕ} {rows row : List ℕ} (h : IsNextR
   abbrev image : Image
   image = image_of_rows p.shape p.kind (rows ++ row)
 
-  pub first_now : HasFirstLines c (rows ++ row) (y + 1)
-  first_now =
-      first_more c d y rows row (rw h.seen.shape h.size) h.first h.turned.shape h.turned.kind
-      (λ z x place. h.turned.left z y x place (omega arith)) (rw h.seen.shape h.lines)
-
-  same : HaveSameRows image c (y + 1)
-  same = have_same p c (rows ++ row) (y + 1) h.seen first_now
-
-  before : HaveSameRows c image y
-  before = record {
-    alike = record { shape = sym same.alike.shape; kind = sym same.alike.kind };
-    same = λ z y' x place lt. sym (same.same z y' x (rw same.alike.shape place) (omega (arith, lt)));
+  pub copied : IsCopied p c y rows row
+  copied = record {
+    lawful = h.lawful;
+    seen = h.seen;
+    inside = h.inside;
+    lines = first_more c d y rows row (rw h.seen.shape h.size) h.first h.turned.shape h.turned.kind
+        (λ z x place. h.turned.left z y x place (omega arith)) (rw h.seen.shape h.lines);
   }
-
-  pub at_there : (bands : List PredictorState) → AreAt p c (y * p.shape.columns) bands → AreAt p image (y * p.shape.columns) bands
-  at_there bands at =
-      let columns : c.shape.columns ≡ p.shape.columns = ap (λ (s : Sizes). s.columns) h.seen.shape in
-      subst (λ w. AreAt p image (y * w) bands) columns
-      (are_at_same c image y before p h.lawful h.seen.shape (rw h.seen.shape (omega (arith, h.inside))) bands
-      (subst (λ w. AreAt p c (y * w) bands) (sym columns) at))
-
-  pub at_back : (bands : List PredictorState) → AreAt p image ((y + 1) * p.shape.columns) bands → AreAt p c ((y + 1) * p.shape.columns) bands
-  unfolding image_of_rows
-  at_back bands at = are_at_same image c (y + 1) same p h.lawful refl (omega (arith, h.inside)) bands at
 
   pub range_there : (z : ℕ) → z < p.shape.bands → AllByRecursion (λ v. v < 2 ^ p.kind.bits) (row_of p image (z ∷ []) y)
   unfolding image_of_rows
@@ -285,7 +217,7 @@ module _ {p : Params} {c d : Image} {y : ℕ} {rows row : List ℕ} (h : IsNextR
 
   pub line_back : (z : ℕ) → z < p.shape.bands → row_of p image (z ∷ []) y ≡ row_of p c (z ∷ []) y
   unfolding image_of_rows
-  line_back z band = row_there image c (y + 1) same p h.lawful refl (omega (arith, h.inside)) y (omega arith) z 1 (λ k one. omega (arith, band, one))
+  line_back z band = row_there image c (y + 1) (same copied) p h.lawful refl (omega (arith, h.inside)) y (omega arith) z 1 (λ k one. omega (arith, band, one))
 
   pub turned_now : {e : Image} → AreLinesSet d e 0 y p.shape.bands (λ z. row_of p image (z ∷ []) y) → AreTurned p c e (y + 1)
   turned_now set = turned_more h.turned (rw h.seen.shape set) (rw h.seen.shape h.inside) (λ z band. line_back z (rw h.seen.shape at band))

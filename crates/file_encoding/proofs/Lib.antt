@@ -3,6 +3,7 @@ pub mod ByPlanes
 pub mod ByRows
 pub mod Coders
 pub mod Columns
+pub mod CopiedRows
 pub mod Encoding
 pub mod Endings
 pub mod FoundRows

@@ -1,15 +1,19 @@
 //! Encoding on one thread.
 
-ghost use Rattle.std.specs.Prelude.{◌≡◌, IsTrue, IfOk, IfErr, OnOk};
+ghost use Rattle.std.specs.Prelude.{◌≡◌, [], IsTrue, IfOk, IfErr, OnOk};
 ghost use Rattle.cube_core.specs.Image.{Image, IsCube};
 ghost use Rattle.cube_core.specs.Order.{upto};
 ghost use Rattle.cube_core.specs.declared.fault.Fault.TheVariants.{WantOfMemory};
 ghost use Rattle.cube_core.specs.declared.order.Order.TheVariants.{Bsq};
 ghost use Rattle.header_bits.specs.Lawful.{IsLawful};
+ghost use Rattle.file_encoding.specs.ByLines.{IsInterleaved};
+ghost use Rattle.file_encoding.specs.Ends.{CodesAll, MayCodeAll};
 ghost use Rattle.file_encoding.specs.InPlace.{AreTurned};
-ghost use Rattle.file_encoding.specs.Walks.{IsSeen, AreAt, bands_of};
+ghost use Rattle.file_encoding.specs.Own.{own_residuals};
+ghost use Rattle.file_encoding.specs.Walks.{IsSeen, AreAt, AreFresh, bands_of};
 ghost use Rattle.file_format.specs.File.{file_of};
 
+use crate::copied::send_copied_lines;
 use crate::file_encoder::FileEncoder;
 use crate::in_place::turn_cube;
 use crate::offsets::send_offsets;
@@ -23,9 +27,12 @@ use predict_core::band::Band;
 use predict_core::bands::all_bands;
 use std::alloc::Global;
 
+/// The fewest rows of an image of which each is copied before it is predicted: the two that are kept are a thirty-second of it at most.
+const FEWEST_ROWS: u32 = 64;
+
 /// Returns the file of a cube, for lawful parameters of its shape and kind, with the coder that they name.
 ///
-/// Returns `WantOfMemory` if the output, or the state of the predictors or of the coder, can't be allocated.
+/// Returns `WantOfMemory` if the output, the rows that are kept, or the state of the predictors or of the coder can't be allocated.
 pub fn encode_one(alloc: Global, cube: &Cube, params: &Params) -> Result<Vec<u8>, Fault>
     requires lawful { IsLawful params.now }
     requires shape { cube.now.shape ≡ params.now.shape }
@@ -36,11 +43,74 @@ pub fn encode_one(alloc: Global, cube: &Cube, params: &Params) -> Result<Vec<u8>
     cube.prove_is_cube();
     let mut bands = all_bands(alloc, params)?;
     let mut end = FileEncoder::new(alloc, params)?;
+    send_all(alloc, cube, params, &mut bands, &mut end)?;
+    end.finish()
+}
+
+/// Sends the residuals of all bands, in encoding order, to the encoder of the file. `bands` are their predictors, each at its first
+/// place.
+///
+/// Returns `WantOfMemory` if the rows that are kept, or the output, can't be allocated.
+fn send_all(
+    alloc: Global,
+    cube: &Cube,
+    params: &Params,
+    bands: &mut [Band],
+    end: &mut FileEncoder,
+) -> Result<(), Fault>
+    requires lawful { IsLawful params.now }
+    requires image { IsSeen params.now cube.now }
+    requires bands { AreFresh params.now 0 [] cube.now bands.old }
+    requires may { MayCodeAll end.old (own_residuals params.now cube.now 0 [] params.now.order) }
+    ensures sent { OnOk result (CodesAll end.old end.new (own_residuals params.now cube.now 0 [] params.now.order)) }
+    ensures refused { IfErr result (λ e. e ≡ WantOfMemory) }
+{
+    if copies_rows(params) {
+        return send_copied(alloc, cube, params, bands, end);
+    }
     let mut room = planes_room(alloc, params);
-    if !send_own(cube, params, 0, &[], &mut bands, &mut room, &mut end) {
+    if !send_own(cube, params, 0, &[], bands, &mut room, end) {
         return Err(Fault::WantOfMemory);
     }
-    end.finish()
+    Ok(())
+}
+
+/// Returns whether several bands are interleaved, and an image has so many rows that two of them are little beside it.
+fn copies_rows(params: &Params) -> bool
+    ensures { IsTrue result → IsInterleaved params.now.order }
+{
+    match params.order {
+        Order::Bsq => false,
+        Order::Bi(depth) => depth > 1 && params.shape.rows() >= FEWEST_ROWS,
+    }
+}
+
+/// Does the same where bands are interleaved, by rows that are copied.
+fn send_copied(
+    alloc: Global,
+    cube: &Cube,
+    params: &Params,
+    bands: &mut [Band],
+    end: &mut FileEncoder,
+) -> Result<(), Fault>
+    requires lawful { IsLawful params.now }
+    requires order { IsInterleaved params.now.order }
+    requires image { IsSeen params.now cube.now }
+    requires bands { AreFresh params.now 0 [] cube.now bands.old }
+    requires may { MayCodeAll end.old (own_residuals params.now cube.now 0 [] params.now.order) }
+    ensures sent { OnOk result (CodesAll end.old end.new (own_residuals params.now cube.now 0 [] params.now.order)) }
+    ensures refused { IfErr result (λ e. e ≡ WantOfMemory) }
+{
+    let Order::Bi(depth) = params.order else {
+        unreachable!()
+    };
+    let size = params.shape.bands() as usize * params.shape.columns() as usize;
+    let mut present = vec![in alloc; 0u16; size]?;
+    let mut above = vec![in alloc; 0u16; size]?;
+    if !send_copied_lines(cube, params, depth, bands, &mut present, &mut above, end) {
+        return Err(Fault::WantOfMemory);
+    }
+    Ok(())
 }
 
 /// Returns the file of a cube, as `encode_one` does, and takes the cube.

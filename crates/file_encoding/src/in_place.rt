@@ -7,11 +7,12 @@ ghost use Rattle.cube_core.specs.Order.{from, upto};
 ghost use Rattle.cube_core.specs.declared.order.Order.TheVariants.{Bsq};
 ghost use Rattle.header_bits.specs.Lawful.{IsLawful};
 ghost use Rattle.file_encoding.specs.ByPlanes.{IsRow};
-ghost use Rattle.file_encoding.specs.InPlace.{AreLinesSet, AreTurned, HasLinesAt};
+ghost use Rattle.file_encoding.specs.InPlace.{AreLinesSet, AreTurned};
 ghost use Rattle.file_encoding.specs.Own.{row_of};
 ghost use Rattle.file_encoding.specs.Pieces.{row_start};
 ghost use Rattle.file_encoding.specs.Walks.{IsSeen, AreAt, bands_of};
 
+use crate::copied::next_row;
 use crate::pieces::GROUP;
 use crate::side_by_side::keep_row;
 use cube_core::cube::Cube;
@@ -20,7 +21,6 @@ use header_bits::params::Params;
 use predict_core::band::Band;
 use predict_core::handed::HandedRows;
 use predict_core::rows::Rows;
-use std::mem::swap;
 
 /// Replaces each sample of a cube by its mapped residual, as an offset from the least sample (CCSDS 123.0-B-1, "Mapped Prediction
 /// Residual").
@@ -54,41 +54,6 @@ pub(crate) fn turn_cube(
         handed = handed.and(&present[..]);
         let rows = Rows::of_last(shape, params.kind, y, &present[..], &above[..], &handed);
         turn_row(&rows, params, bands, room, &mut group, cube);
-    }
-}
-
-/// Goes on to row `y` of a cube: the row that was present is now the one above. The first row, which has none above it, is its own.
-fn next_row(cube: &Cube, params: &Params, y: u32, present: &mut Vec<u16>, above: &mut Vec<u16>)
-    requires image { IsSeen params.now cube.now }
-    requires place { y < params.now.shape.rows }
-    requires present { IsRow params.now present.old.items }
-    requires above { IsRow params.now above.old.items }
-    ensures lines { HasLinesAt cube.now y params.now.shape.bands present.new.items }
-    ensures present { IsRow params.now present.new.items }
-    ensures above { IsRow params.now above.new.items }
-    ensures first { y ≡ 0 → above.new.items ≡ present.new.items }
-    ensures later { 1 ≤ y → above.new.items ≡ present.old.items }
-{
-    swap(present, above);
-    copy_row(cube, params, y, &mut present[..]);
-    if y == 0 {
-        above.copy_from_slice(&present[..]);
-    }
-}
-
-/// Writes row `y` of all bands of a cube, band after band.
-fn copy_row(cube: &Cube, params: &Params, y: u32, row: &mut [u16])
-    requires image { IsSeen params.now cube.now }
-    requires place { y < params.now.shape.rows }
-    requires row { IsRow params.now row.old }
-    ensures lines { HasLinesAt cube.now y params.now.shape.bands row.new }
-    ensures row { IsRow params.now row.new }
-{
-    cube.prove_is_cube();
-    let columns = params.shape.columns() as usize;
-    for z in 0..params.shape.bands() {
-        let first = z as usize * columns;
-        row[first..first + columns].copy_from_slice(cube.row(z, y));
     }
 }
 

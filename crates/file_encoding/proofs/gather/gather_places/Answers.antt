@@ -1,4 +1,4 @@
-use Rattle.std.proofs.Common.{◌+◌, ◌*◌, length, arith}
+use Rattle.std.proofs.Common.{length, arith}
 use Rattle.file_encoding.proofs.GatheredSquares.{columns_more}
 use Rattle.file_encoding.proofs.RowPieces.{places_more}
 use Rattle.file_encoding.proofs.gather.gather_places.Goals as goal

@@ -1,4 +1,4 @@
-use Rattle.std.proofs.Common.{◌≡◌, ◌+◌, ◌*◌, ◌<◌, ◌∙◌, ◌∷◌, [], ℕ, length, get_or, ap, arith}
+use Rattle.std.proofs.Common.{◌≡◌, ◌+◌, ◌∙◌, ◌∷◌, [], get_or, ap, arith}
 use Rattle.lanes.proofs.Steps.{eight}
 use Rattle.lanes.specs.Squares.{at}
 use Rattle.file_encoding.specs.Pieces.{held_at}

@@ -1,7 +1,6 @@
-use Rattle.std.proofs.Common.{◌≡◌, ◌+◌, ◌-◌, ◌*◌, ◌<◌, ◌∙◌, ℕ, inl, inr, length, get_or, refl, sym, ap, take, arith}
+use Rattle.std.proofs.Common.{◌≡◌, ◌+◌, ◌-◌, ◌*◌, ◌∙◌, inl, inr, length, refl, sym, arith}
 use Rattle.std.proofs.lemmas.Bool.{cases_lt}
 use Rattle.std.proofs.lemmas.List.{take_all}
-use Rattle.file_encoding.specs.Pieces.{held_at}
 use Rattle.file_encoding.proofs.GatheredSquares.{columns_are}
 use Rattle.file_encoding.proofs.gather.gather_squares.Goals as goal
 

@@ -1,4 +1,4 @@
-use Rattle.std.proofs.Common.{◌≡◌, ◌+◌, ◌-◌, ◌∙◌, List, ℕ, get_or, take, drop, length, ap, get_or-drop, get_or-take, arith}
+use Rattle.std.proofs.Common.{◌+◌, ◌-◌, ◌∙◌, List, ℕ, get_or, take, drop, length, ap, get_or-drop, get_or-take, arith}
 use Rattle.file_encoding.proofs.gather.places_of.Goals as goal
 
 pub returns : goal.returns

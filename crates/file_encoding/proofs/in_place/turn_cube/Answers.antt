@@ -2,7 +2,8 @@ use Rattle.std.proofs.Common.{◌≡◌, ◌+◌, ◌-◌, ◌*◌, ◌^◌, ◌
 use Rattle.std.specs.List.{AllByRecursion}
 use Rattle.header_bits.specs.declared.params.Params.{Params}
 use Rattle.sample_prediction.specs.HandedRows.{image_of_rows, row_size}
-use Rattle.file_encoding.proofs.InPlace.{HasFirstLines, IsNextRow, at_back, at_there, first_now, range_there, turned_now, turned_none}
+use Rattle.file_encoding.proofs.CopiedRows.{HasFirstLines, at_back, at_there}
+use Rattle.file_encoding.proofs.InPlace.{IsNextRow, copied, range_there, turned_now, turned_none}
 use Rattle.file_encoding.proofs.KeptPlanes.{last_rows, all_range, all_size, row_last, seen_rows}
 use Rattle.file_encoding.proofs.Sending.{at_same}
 use Rattle.file_encoding.proofs.in_place.turn_cube.Goals as goal
@@ -91,7 +92,7 @@ pub turn_row-requires-clause-at : goal.turn_row-requires-clause-at
 unfolding image_of_rows
 turn_row-requires-clause-at c =
     let d = (goal.at.turn_row-requires-clause-at c).After-of_last-rows in
-    rw (rows_are d) (at_there (next d) c.loop-y.bands c.loop-y.invariant.at)
+    rw (rows_are d) (at_there (copied (next d)) c.loop-y.bands c.loop-y.invariant.at)
 
 pub loop-y-preserved : goal.loop-y-preserved
 unfolding image_of_rows
@@ -107,12 +108,12 @@ loop-y-preserved c =
     let same : y + 1 - 1 ≡ y = omega arith in
     record {
       turned = turned_now (next d) told.turned;
-      at = at_back (next d) c.turn_row.new.bands told.at;
+      at = at_back (copied (next d)) c.turn_row.new.bands told.at;
       same = told.same ∙ was.same;
       size = subst (λ ns. length ns ≡ (y + 1) * row_size s) offsets (all_size (p d) y (rows d) (row d) was.size was.range lines.present inside);
       range = subst (λ ns. AllByRecursion (λ v. v < 2 ^ (p d).kind.bits) ns) offsets
           (all_range (p d) y (rows d) (row d) was.size was.range lines.present inside);
-      lines = subst (λ ns. HasFirstLines c.args.cube.now ns (y + 1)) offsets (first_now (next d));
+      lines = subst (λ ns. HasFirstLines c.args.cube.now ns (y + 1)) offsets (copied (next d)).lines;
       last = λ some. row_last (p d) y (rows d) (row d) was.size was.range lines.present inside ∙ ap₂ (λ n ns. drop (n * row_size s) ns) (sym same) offsets;
       present = lines.present;
       above = lines.above;

@@ -4,7 +4,7 @@ use Rattle.sample_prediction.specs.HandedRows.{row_size}
 use Rattle.file_encoding.specs.ByPlanes.{IsRow}
 use Rattle.file_encoding.specs.InPlace.{AreTurned}
 use Rattle.file_encoding.specs.Walks.{AreAt, bands_of}
-use Rattle.file_encoding.proofs.InPlace.{HasFirstLines}
+use Rattle.file_encoding.proofs.CopiedRows.{HasFirstLines}
 use Rattle.file_encoding.proofs.in_place.turn_cube.Given as goal
 
 abbrev pub invariant-loop-y : goal.invariant-loop-y

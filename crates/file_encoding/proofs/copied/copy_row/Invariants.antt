@@ -1,6 +1,6 @@
 use Rattle.file_encoding.specs.ByPlanes.{IsRow}
 use Rattle.file_encoding.specs.InPlace.{HasLinesAt}
-use Rattle.file_encoding.proofs.in_place.copy_row.Given as goal
+use Rattle.file_encoding.proofs.copied.copy_row.Given as goal
 
 abbrev pub invariant-loop-z : goal.invariant-loop-z
 invariant-loop-z l = record {

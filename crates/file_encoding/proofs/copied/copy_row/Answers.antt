@@ -5,10 +5,10 @@ use Rattle.cube_core.specs.Offsets.{AreRowOffsets}
 use Rattle.cube_core.specs.Shape.{Sizes}
 use Rattle.sample_prediction.specs.HandedRows.{row_size}
 use Rattle.file_encoding.specs.Pieces.{row_start}
-use Rattle.file_encoding.proofs.InPlace.{line_range}
+use Rattle.file_encoding.proofs.CopiedRows.{line_range}
 use Rattle.file_encoding.proofs.KeptPlanes.{all_put, length_put, line_inside, line_there, lines_before}
-use Rattle.file_encoding.proofs.in_place.copy_row.Goals as goal
-use Rattle.file_encoding.proofs.in_place.copy_row.Goals.{In-loop-z}
+use Rattle.file_encoding.proofs.copied.copy_row.Goals as goal
+use Rattle.file_encoding.proofs.copied.copy_row.Goals.{In-loop-z}
 
 module _ (c : In-loop-z) where
   width : c.args.cube.now.shape.columns ≡ c.columns-columns.result
