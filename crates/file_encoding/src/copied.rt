@@ -9,9 +9,8 @@ ghost use Rattle.file_encoding.specs.InPlace.{HasLinesAt};
 ghost use Rattle.file_encoding.specs.Own.{own_residuals};
 ghost use Rattle.file_encoding.specs.Walks.{IsSeen, AreAt, bands_of};
 
-use crate::pieces::PieceRoom;
+use crate::all_bands::{LineRooms, send_all_bands};
 use crate::taker::Taker;
-use crate::walk::send_line;
 use cube_core::cube::Cube;
 use header_bits::params::Params;
 use predict_core::band::Band;
@@ -44,13 +43,13 @@ pub(crate) fn send_copied_lines<T: Taker>(
     ensures { T.takes taker.old taker.new result (own_residuals params.now cube.now 0 [] (Bi depth)) }
 {
     let shape = params.shape;
-    let mut room = PieceRoom::new();
+    let mut rooms = LineRooms::new();
     let mut handed = HandedRows::none();
     for y in 0..shape.rows() {
         next_row(cube, params, y, present, above);
         handed = handed.and(&present[..]);
         let rows = Rows::of_last(shape, params.kind, y, &present[..], &above[..], &handed);
-        if !send_line(&rows, params, 0, &[], depth, bands, &mut room, taker) {
+        if !send_all_bands(&rows, params, depth, bands, &mut rooms, taker) {
             return false;
         }
     }

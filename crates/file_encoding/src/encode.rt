@@ -75,13 +75,13 @@ fn send_all(
     Ok(())
 }
 
-/// Returns whether several bands are interleaved, and an image has so many rows that two of them are little beside it.
+/// Returns whether bands are interleaved, and an image has so many rows that two of them are little beside it.
 fn copies_rows(params: &Params) -> bool
     ensures { IsTrue result → IsInterleaved params.now.order }
 {
     match params.order {
         Order::Bsq => false,
-        Order::Bi(depth) => depth > 1 && params.shape.rows() >= FEWEST_ROWS,
+        Order::Bi(_) => params.shape.rows() >= FEWEST_ROWS,
     }
 }
 

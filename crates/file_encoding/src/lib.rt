@@ -1,6 +1,7 @@
 //! The writing end of an image: from its cube to the bytes of its file, on one thread.
 #![tactic(auto)]
 
+mod all_bands;
 mod copied;
 mod each_plane;
 mod each_row;

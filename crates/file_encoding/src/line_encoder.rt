@@ -6,16 +6,10 @@ ghost use Rattle.cube_core.specs.declared.fault.Fault.TheVariants.{WantOfMemory}
 ghost use Rattle.header_bits.specs.Lawful.{IsLawful};
 ghost use Rattle.header_bits.specs.declared.params.Params.{Params as Parameters};
 ghost use Rattle.sample_prediction.specs.HandedRows.{row_size};
-ghost use Rattle.cube_core.specs.Order.{upto};
 ghost use Rattle.file_encoding.specs.ByLines.{AreAllLines, IsFileOfLines, IsInterleaved, AreLinesUnderWay};
-ghost use Rattle.file_encoding.specs.Ends.{CodesAll, MayCodeAll};
-ghost use Rattle.file_encoding.specs.Own.{line_of};
-ghost use Rattle.file_encoding.specs.Walks.{AreAt, IsSeen, bands_of};
 
-use crate::each_row::{ROOM, send_each_row};
+use crate::all_bands::{LineRooms, send_all_bands};
 use crate::file_encoder::FileEncoder;
-use crate::pieces::PieceRoom;
-use crate::walk::send_line;
 use cube_core::fault::Fault;
 use cube_core::order::Order;
 use header_bits::params::Params;
@@ -37,13 +31,6 @@ pub struct LineEncoder {
     rooms: Box<LineRooms>,
     end: FileEncoder,
     handed: HandedRows,
-}
-
-/// Room for what is computed of a row. It is on the heap, so that an encoder is moved without it.
-#[derive(Clone, Copy)]
-struct LineRooms {
-    piece: PieceRoom,
-    lines: [u16; ROOM],
 }
 
 impl Model for LineEncoder {
@@ -71,15 +58,11 @@ impl LineEncoder {
         let end = FileEncoder::new(alloc, params)?;
         let size = shape.bands() as usize * shape.columns() as usize;
         let above = vec![in alloc; 0u16; size]?;
-        let rooms = LineRooms {
-            piece: PieceRoom::new(),
-            lines: [0; ROOM],
-        };
         Ok(LineEncoder {
             y: 0,
             above,
             bands,
-            rooms: Box::new(alloc, rooms)?,
+            rooms: Box::new(alloc, LineRooms::new())?,
             end,
             handed: HandedRows::none(),
         })
@@ -146,38 +129,5 @@ impl LineEncoder {
             handed: _,
         } = self;
         end.finish()
-    }
-}
-
-/// Sends the residuals of all bands in a row, group after group of interleaved bands. Returns false if memory has run out.
-fn send_all_bands(
-    rows: &Rows,
-    params: &Params,
-    depth: u32,
-    bands: &mut [Band],
-    rooms: &mut LineRooms,
-    end: &mut FileEncoder,
-) -> bool
-    requires image { IsSeen params.now rows.now.image }
-    requires depth { (1 ≤ depth) × (depth ≤ 65536) }
-    requires row { rows.now.y < rows.now.image.shape.rows }
-    requires own { bands_of bands.old ≡ upto rows.now.image.shape.bands }
-    requires at { AreAt params.now rows.now.image (rows.now.y * rows.now.image.shape.columns) bands.old }
-    requires may { MayCodeAll end.old (line_of params.now rows.now.image 0 [] depth rows.now.y) }
-    ensures sent { IsTrue result → CodesAll end.old end.new (line_of params.now rows.now.image 0 [] depth rows.now.y) }
-    ensures at { IsTrue result → AreAt params.now rows.now.image ((rows.now.y + 1) * rows.now.image.shape.columns) bands.new }
-    ensures same { bands_of bands.new ≡ bands_of bands.old }
-{
-    if depth == 1 {
-        send_each_row(
-            rows,
-            params,
-            bands,
-            &mut rooms.lines,
-            &mut rooms.piece.group,
-            end,
-        )
-    } else {
-        send_line(rows, params, 0, &[], depth, bands, &mut rooms.piece, end)
     }
 }

@@ -7,7 +7,6 @@ use Rattle.header_bits.specs.declared.params.Params.{Params}
 use Rattle.sample_prediction.specs.HandedRows.{image_of_rows, row_size}
 use Rattle.file_encoding.specs.Own.{line_of, own_residuals}
 use Rattle.file_encoding.proofs.CopiedRows.{HasFirstLines, IsCopied, at_back, at_there, copied_more, line_back}
-use Rattle.file_encoding.proofs.Encoding.{own_all}
 use Rattle.file_encoding.proofs.KeptPlanes.{last_rows, all_range, all_size, row_last, seen_rows}
 use Rattle.file_encoding.proofs.Sending.{Steps, at_same, none_yet, stepped, upto_rest}
 use Rattle.file_encoding.proofs.copied.send_copied_lines.Goals as goal
@@ -76,44 +75,44 @@ of_last-rows-requires g c =
     (last_rows p c.loop-y.y rows c.next_row.new.present.items was.size was.range lines.present inside
     c.next_row.new.above.items c.loop-y.present.items lines.first lines.later was.last)
 
-pub send_line-requires-clause-image : goal.send_line-requires-clause-image
-send_line-requires-clause-image g c =
-    let d = (goal.at.send_line-requires-clause-image g c).After-of_last-rows in
+pub send_all_bands-requires-clause-image : goal.send_all_bands-requires-clause-image
+send_all_bands-requires-clause-image g c =
+    let d = (goal.at.send_all_bands-requires-clause-image g c).After-of_last-rows in
     rw (rows_are g d) (seen_rows (p g d) (rows g d ++ row g d))
 
-pub send_line-requires-clause-row : goal.send_line-requires-clause-row
+pub send_all_bands-requires-clause-row : goal.send_all_bands-requires-clause-row
 unfolding image_of_rows
-send_line-requires-clause-row g c =
-    let d = (goal.at.send_line-requires-clause-row g c).After-of_last-rows in
+send_all_bands-requires-clause-row g c =
+    let d = (goal.at.send_all_bands-requires-clause-row g c).After-of_last-rows in
     rw (rows_are g d) (inside g d)
 
-pub send_line-requires-clause-own : goal.send_line-requires-clause-own
+pub send_all_bands-requires-clause-own : goal.send_all_bands-requires-clause-own
 unfolding image_of_rows
-send_line-requires-clause-own g c =
-    let d = (goal.at.send_line-requires-clause-own g c).After-of_last-rows in
-    rw (rows_are g d) (c.loop-y.invariant.same ∙ c.requires.own ∙ sym (own_all (upto (p g d).shape.bands)))
+send_all_bands-requires-clause-own g c =
+    let d = (goal.at.send_all_bands-requires-clause-own g c).After-of_last-rows in
+    rw (rows_are g d) (c.loop-y.invariant.same ∙ c.requires.own)
 
-pub send_line-requires-clause-at : goal.send_line-requires-clause-at
+pub send_all_bands-requires-clause-at : goal.send_all_bands-requires-clause-at
 unfolding image_of_rows
-send_line-requires-clause-at g c =
-    let d = (goal.at.send_line-requires-clause-at g c).After-of_last-rows in
+send_all_bands-requires-clause-at g c =
+    let d = (goal.at.send_all_bands-requires-clause-at g c).After-of_last-rows in
     rw (rows_are g d) (at_there (copied g d) c.loop-y.bands c.loop-y.invariant.at)
 
-pub send_line-requires-clause-may : goal.send_line-requires-clause-may
-send_line-requires-clause-may g c =
-    let d = (goal.at.send_line-requires-clause-may g c).After-of_last-rows in
+pub send_all_bands-requires-clause-may : goal.send_all_bands-requires-clause-may
+send_all_bands-requires-clause-may g c =
+    let d = (goal.at.send_all_bands-requires-clause-may g c).After-of_last-rows in
     rw (rows_are g d) (steps g d).fits
 
-pub returns-then-not-send_line : goal.returns-then-not-send_line
-returns-then-not-send_line g c =
-    let d = (goal.at.returns-then-not-send_line g c).After-of_last-rows in
-    (steps g d).cut _ _ c.if-not-send_line.true (rw (rows_are g d) at c.send_line.ensures.sent)
+pub returns-then-not-send_all_bands : goal.returns-then-not-send_all_bands
+returns-then-not-send_all_bands g c =
+    let d = (goal.at.returns-then-not-send_all_bands g c).After-of_last-rows in
+    (steps g d).cut _ _ c.if-not-send_all_bands.true (rw (rows_are g d) at c.send_all_bands.ensures.sent)
 
 pub loop-y-preserved : goal.loop-y-preserved
 unfolding image_of_rows
 loop-y-preserved g c =
     let d = (goal.at.loop-y-preserved g c).After-of_last-rows in
-    let told = rw (rows_are g d) at c.send_line.ensures in
+    let told = rw (rows_are g d) at c.send_all_bands.ensures in
     let was = c.loop-y.invariant in
     let lines = c.next_row.ensures in
     let y = c.loop-y.y in
@@ -122,9 +121,9 @@ loop-y-preserved g c =
     let offsets : rows g d ++ row g d ≡ c.and-handed.result.offsets = sym (offsets_are g d) in
     let before : y + 1 - 1 ≡ y = omega arith in
     record {
-      at = at_back (copied g d) c.send_line.new.bands (told.at c.if-not-send_line.false);
+      at = at_back (copied g d) c.send_all_bands.new.bands (told.at c.if-not-send_all_bands.false);
       same = told.same ∙ was.same;
-      sent = (steps g d).more _ _ c.if-not-send_line.false told.sent;
+      sent = (steps g d).more _ _ c.if-not-send_all_bands.false told.sent;
       size = subst (λ ns. length ns ≡ (y + 1) * row_size s) offsets (all_size (p g d) y (rows g d) (row g d) was.size was.range lines.present inside);
       range = subst (λ ns. AllByRecursion (λ v. v < 2 ^ (p g d).kind.bits) ns) offsets
           (all_range (p g d) y (rows g d) (row g d) was.size was.range lines.present inside);
