@@ -1,3 +1,4 @@
+mod HandingOn
 mod Rows
 pub mod Inspecting
 pub mod Planned

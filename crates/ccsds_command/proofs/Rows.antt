@@ -1,8 +1,9 @@
--- One more row was read and coded, and the file of all rows.
-use Rattle.std.proofs.Common.{◌≡◌, ◌+◌, ◌-◌, ◌*◌, ◌<◌, ◌≤◌, ℕ, suc, List, [], ◌++◌, length, length-append, Option, Ok, refl, sym, ap, ◌∙◌, subst, arith}
+-- More rows were read and coded, and the file of all rows.
+use Rattle.std.proofs.Common.{◌≡◌, ◌⊎◌, inl, inr, ◌+◌, ◌-◌, ◌*◌, ◌<◌, ◌≤◌, ℕ, List, [], ◌++◌, length, Option, Ok, refl, sym, ap, ◌∙◌, subst, arith}
 use Rattle.std.proofs.lemmas.List.{nil_from_length}
 use Rattle.std.proofs.lemmas.Nat.{mul-le}
 use Rattle.cube_core.specs.declared.fault.Fault.{Fault}
+use Rattle.cube_core.specs.declared.fault.Fault.TheVariants.{WantOfMemory}
 use Rattle.cube_core.specs.declared.layout.Layout.{Layout}
 use Rattle.cube_core.specs.Image.{Image}
 use Rattle.cube_core.specs.Kind.{SampleKind}
@@ -21,8 +22,8 @@ use Rattle.raw_rows.specs.Together.{GoTogether}
 use Rattle.raw_streams.specs.Rows.{GaveRows, IsRowRefusal, row_bytes, rows_in, samples_in_row}
 use Rattle.raw_streams.specs.Streams.{IsRawRefusal, most_read}
 use Rattle.raw_streams.proofs.RowStreams.{all_rows, row_refused}
-use Rattle.raw_streams.proofs.Streams.{all_came, found_cube, found_none, gave_within, within_more}
-use Rattle.ccsds_command.specs.ByRows.{HasCome}
+use Rattle.raw_streams.proofs.Streams.{all_came, found_cube, found_none, within_more}
+use Rattle.ccsds_command.specs.ByRows.{AreOfRows, HandedOn, HasCome}
 use Rattle.ccsds_command.specs.Compress.{HasFile}
 
 -- ---- before the first row
@@ -47,6 +48,19 @@ pub samples_come : (p : Params) (l : Layout) (e : RowEncoderState) (bytes : List
     → IsFound p.shape p.kind l bytes n (Ok (image_so_far p e.offsets)) → (length bytes ≡ n * l.bytes) × AreSamples p.kind l bytes n
 samples_come p l e bytes n found = let (cube, shape, kind, raw, have, samples) = found.cube in (found.long, samples)
 
+-- one row more was handed over
+pub row_handed : (s : CompressSettings) (e new : RowEncoderState) (r : Image) (bytes samples before : List ℕ) → IsLayout s.layout
+    → GoTogether s.layout.order s.params.order → IsUnderWay s.params e → e.y < rows_in s.params.shape s.layout
+    → IsRow (rows_of_raw s.layout.order s.params.shape) s.params.kind s.layout r bytes samples → new.y ≡ e.y + 1 → new.offsets ≡ e.offsets ++ samples
+    → AreOfRows s e before → AreOfRows s new (before ++ bytes)
+row_handed s e new r bytes samples before layout together under more row y_is offsets_are found =
+    let next : (e.y + 1) * samples_in_row s.params.shape s.layout ≡ e.y * samples_in_row s.params.shape s.layout + samples_in_row s.params.shape s.layout = grind arith in
+    let size : length e.offsets ≡ e.y * samples_in_row s.params.shape s.layout =
+    under.size ∙ ap (λ (t : Sizes). e.y * samples_of_row t) (sym (same_rows s.layout.order s.params.order s.params.shape together)) in
+    rw (y_is, offsets_are, next) (found_next s.params s.layout e.offsets e.y before under.lawful layout together size under.range found more r bytes samples row)
+
+-- ---- rows that came
+
 module _ (s : CompressSettings) (e : RowEncoderState) (a b c : Option (List ℕ)) (come : HasCome s e a b) where
   bytes_come : length come.0 ≡ e.y * row_bytes s.params.shape s.layout
   bytes_come = (samples_come s.params s.layout e come.0 (e.y * samples_in_row s.params.shape s.layout) come.2).0 ∙ grind arith
@@ -57,6 +71,12 @@ module _ (s : CompressSettings) (e : RowEncoderState) (a b c : Option (List ℕ)
       row_refused s.params.shape s.params.kind s.layout e.y a b c come.0 f0 f1 f2 fault (rw at inside) come.1 bytes_come
       (samples_come s.params s.layout e come.0 (e.y * samples_in_row s.params.shape s.layout) come.2).1 same (rw (kind, ← at) at refused)
 
+  pub next_refused : (y f0 f1 f2 : ℕ) (fault : Fault) → e.y ≡ y → y ≤ rows_in s.params.shape s.layout → f1 ≡ f0
+      → (fault ≡ WantOfMemory) ⊎ IsRowRefusal s.params.shape s.params.kind s.layout y b c f1 f2 fault
+      → IsRawRefusal s.params.shape s.params.kind s.layout a f0 f2 fault
+  next_refused y f0 f1 f2 fault at inside same (inl memory) = inr (inl memory)
+  next_refused y f0 f1 f2 fault at inside same (inr refused) = come_refused s.params.kind y f0 f1 f2 fault refl at inside same refused
+
   low : e.y ≤ rows_in s.params.shape s.layout → e.y * row_bytes s.params.shape s.layout ≤ most_read s.params.shape s.layout
   low inside = omega (arith, mul-le e.y (row_bytes s.params.shape s.layout) (rows_in s.params.shape s.layout) (row_bytes s.params.shape s.layout) inside (omega arith), all_rows s.params.shape s.layout)
 
@@ -66,26 +86,9 @@ module _ (s : CompressSettings) (e : RowEncoderState) (a b c : Option (List ℕ)
   come_within y at inside within = within_more a b c come.0 (most_read s.params.shape s.layout - y * row_bytes s.params.shape s.layout)
       (most_read s.params.shape s.layout) come.1 within (rw (← at) (omega (arith, bytes_come, low (rw at inside))))
 
-  -- one row more
-  pub come_with_row : (bytes : List ℕ) → Gave b c bytes → length bytes ≡ row_bytes s.params.shape s.layout → e.y < rows_in s.params.shape s.layout
-      → GaveWithin (λ _. most_read s.params.shape s.layout) a c
-  come_with_row bytes gave long more =
-      let next : suc e.y * row_bytes s.params.shape s.layout ≡ e.y * row_bytes s.params.shape s.layout + row_bytes s.params.shape s.layout = grind arith in
-      let fits : suc e.y * row_bytes s.params.shape s.layout ≤ rows_in s.params.shape s.layout * row_bytes s.params.shape s.layout = mul-le (suc e.y) (row_bytes s.params.shape s.layout) (rows_in s.params.shape s.layout) (row_bytes s.params.shape s.layout) more (omega arith) in
-      gave_within a c (come.0 ++ bytes) (most_read s.params.shape s.layout) (gave_more a b c come.0 bytes come.1 gave)
-      (omega (arith, length-append come.0 bytes, bytes_come, long, next, fits, all_rows s.params.shape s.layout))
-
-  pub come_more : (new : RowEncoderState) (r : Image) (bytes samples : List ℕ) → IsLayout s.layout → GoTogether s.layout.order s.params.order
-      → IsUnderWay s.params e → e.y < rows_in s.params.shape s.layout → IsRow (rows_of_raw s.layout.order s.params.shape) s.params.kind s.layout r bytes samples → Gave b c bytes → new.y ≡ e.y + 1
-      → new.offsets ≡ e.offsets ++ samples → HasCome s new a c
-  come_more new r bytes samples layout together under more row gave y_is offsets_are =
-      let next : (e.y + 1) * samples_in_row s.params.shape s.layout ≡ e.y * samples_in_row s.params.shape s.layout + samples_in_row s.params.shape s.layout = grind arith in
-      let size : length e.offsets ≡ e.y * samples_in_row s.params.shape s.layout =
-      under.size ∙ ap (λ (t : Sizes). e.y * samples_of_row t) (sym (same_rows s.layout.order s.params.order s.params.shape together)) in (
-        come.0 ++ bytes,
-        gave_more a b c come.0 bytes come.1 gave,
-        rw (y_is, offsets_are, next) (found_next s.params s.layout e.offsets e.y come.0 under.lawful layout together size under.range come.2 more r bytes samples row),
-      )
+  -- some rows more
+  pub come_more : (new : RowEncoderState) (count : ℕ) (bytes : List ℕ) → Gave b c bytes → HandedOn s e new count bytes → HasCome s new a c
+  come_more new count bytes gave handed = (come.0 ++ bytes, gave_more a b c come.0 bytes come.1 gave, handed.rows come.0 come.2)
 
 -- ---- after the last row
 

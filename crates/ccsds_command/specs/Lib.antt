@@ -5,3 +5,4 @@ pub mod Expand
 pub mod Inspect
 pub mod Piped
 pub mod Show
+pub mod Taking

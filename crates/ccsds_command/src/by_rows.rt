@@ -1,28 +1,30 @@
-//! Coding an image while its raw bytes are read, row after row.
+//! Coding an image while its raw bytes are read, some rows at a time.
 
-ghost use Rattle.std.specs.Prelude.{◌≡◌, [], length, IsTrue, IfOk, IfErr, OnOk};
+ghost use Rattle.std.specs.Prelude.{◌≡◌, ◌⊎◌, ◌+◌, ◌-◌, ◌*◌, ◌≤◌, ℕ, List, Option, [], length, IsTrue, IfOk, IfErr, OnOk};
+ghost use Rattle.cube_core.specs.declared.fault.Fault.TheVariants.{WantOfMemory};
 ghost use Rattle.cube_core.specs.Layout.{IsLayout};
+ghost use Rattle.cube_core.specs.Raw.{IsBadSample};
 ghost use Rattle.header_bits.specs.Lawful.{IsLawful};
 ghost use Rattle.file_encoding.specs.ByRows.{IsUnderWay, rows_of_order};
-ghost use Rattle.raw_rows.specs.OneRow.{one_row as row_of, rows_of_raw};
-ghost use Rattle.raw_streams.specs.Rows.{row_bytes, samples_in_row};
+ghost use Rattle.raw_streams.specs.Rows.{IsRowRefusal, row_bytes, rows_in};
 ghost use Rattle.raw_streams.specs.Streams.{IsRawRefusal, most_read};
 ghost use Rattle.raw_rows.specs.Together.{GoTogether};
-ghost use Rattle.ccsds_command.specs.ByRows.{HasCome};
+ghost use Rattle.ccsds_command.specs.ByRows.{HandedOn, HasCome};
 ghost use Rattle.ccsds_command.specs.Compress.{HasFile, IsCubeRefusal, raw_limit};
-ghost use Rattle.command_devices.specs.Devices.{GaveWithin};
+ghost use Rattle.ccsds_command.specs.Taking.{IsTaker};
+ghost use Rattle.command_devices.specs.Devices.{Gave, GaveWithin};
 ghost use Rattle.command_devices.specs.Reading.{ToldAsRead};
 
+use crate::row_taker::{RowTaker, row_length, rows_at_once};
 use command_devices::source::Source;
 use command_words::settings::CompressSettings;
-use cube_core::cube::Cube;
 use cube_core::fault::Fault;
 use cube_core::layout::RawOrder;
 use cube_core::order::Order;
 use file_encoding::row_encoder::RowEncoder;
 use header_bits::params::Params;
-use raw_rows::one_row::{one_row, row_count, row_samples};
-use raw_streams::rows::{read_rest, read_row};
+use raw_rows::one_row::{row_count, row_samples};
+use raw_streams::rows::{read_rest, read_rows};
 use std::alloc::Global;
 
 /// The fewest rows of an image that is coded while it is read. Four rows of all bands are kept, which is no gain where there are few.
@@ -36,10 +38,6 @@ const PLANES: u64 = 8;
 
 /// The most samples in the planes that are kept.
 const MOST_PLANE_SAMPLES: u64 = 1 << 28;
-
-/// The fewest columns of an image of which any number of planes is kept. Each row of a band is read and copied on its own, which takes
-/// long where rows are short.
-const FEWEST_COLUMNS: u32 = 256;
 
 /// Returns whether an image is coded while it is read: its raw bytes bring the rows that its order codes, one after another, and what
 /// is kept is less than the image.
@@ -61,22 +59,16 @@ fn has_short_rows(params: &Params) -> bool {
     shape.rows() >= FEWEST_ROWS && row <= MOST_SAMPLES
 }
 
-/// Returns whether the planes that are kept in band-sequential order are fewer than those of the image, or with short rows at most a
-/// third of them; and not too much.
+/// Returns whether the planes that are kept in band-sequential order are fewer than those of the image, and not too much.
 fn has_few_planes(params: &Params) -> bool {
     let shape = params.shape;
     let kept = u64::from(params.previous) + PLANES;
     let plane = u64::from(shape.rows()) * u64::from(shape.columns());
-    let bands = u64::from(shape.bands());
-    let most = if shape.columns() < FEWEST_COLUMNS {
-        bands / 3
-    } else {
-        bands - 1
-    };
-    kept <= most && kept * plane <= MOST_PLANE_SAMPLES
+    kept < u64::from(shape.bands()) && kept * plane <= MOST_PLANE_SAMPLES
 }
 
-/// Returns the file of the cube whose raw bytes the source has. Beside the file, it keeps the rows, or the planes, that prediction reads.
+/// Returns the file of the cube whose raw bytes the source has. Beside the file, it keeps the rows, or the planes, that prediction reads,
+/// and the rows that are read at once.
 pub(crate) fn file_by_rows<S: Source>(
     alloc: Global,
     source: &mut S,
@@ -91,68 +83,135 @@ pub(crate) fn file_by_rows<S: Source>(
     ensures told { IfErr result (ToldAsRead (S.failures source.old) (S.failures source.new)) }
     ensures bounded { GaveWithin (λ _. raw_limit settings.now) (S.left source.old) (S.left source.new) }
 {
-    let params = &settings.params;
-    let encoder = RowEncoder::new(alloc, params)?;
-    let layout = settings.layout;
-    let size = row_samples(layout, params.shape) as usize;
-    let mut bytes = vec![in alloc; 0u8; size * layout.bytes as usize]?;
-    let mut samples = vec![in alloc; 0u16; size]?;
-    let row = Cube::new(alloc, one_row(layout, params.shape), params.kind)?;
-    let encoder = code_rows(source, settings, row, encoder, &mut bytes, &mut samples)?;
-    read_rest(
-        source,
-        params.shape,
-        layout,
-        row_count(layout, params.shape),
-        &mut bytes,
-    )?;
+    let encoder = RowEncoder::new(alloc, &settings.params)?;
+    let (most, length) = (rows_at_once(settings), row_length(settings));
+    let mut room = vec![in alloc; 0u8; most * length]?;
+    let taker = RowTaker::new(alloc, settings, most)?;
+    let encoder = code_rows(source, settings, most, taker, encoder, &mut room)?;
+    let (shape, layout) = (settings.params.shape, settings.layout);
+    let rows = row_count(layout, shape);
+    read_rest(source, shape, layout, rows, &mut room[..length])?;
     encoder.finish()
 }
 
-/// Reads each row in turn, and hands it to the encoder.
+/// Reads all rows, at most `most` at a time, and hands them to the encoder.
 ///
-/// Returns `Read`, `RawLength` or `SampleRange` as `read_row` does; and `WantOfMemory` if an allocation fails.
+/// Returns `Read`, `RawLength` or `SampleRange` as `code_next` does; and `WantOfMemory` if an allocation fails.
 fn code_rows<S: Source>(
     source: &mut S,
     settings: &CompressSettings,
-    row: Cube,
+    most: usize,
+    taker: RowTaker,
     encoder: RowEncoder,
-    bytes: &mut [u8],
-    samples: &mut [u16],
+    room: &mut [u8],
 ) -> Result<RowEncoder, Fault>
     requires layout { IsLayout settings.now.layout }
     requires together { GoTogether settings.now.layout.order settings.now.params.order }
-    requires row { (row.shape ≡ row_of (rows_of_raw settings.now.layout.order settings.now.params.shape)) × (row.kind ≡ settings.now.params.kind) }
+    requires some { 1 ≤ most }
+    requires taker { IsTaker settings.now most taker }
     requires under_way { IsUnderWay settings.now.params encoder }
     requires none { (encoder.y ≡ 0) × (encoder.offsets ≡ []) }
-    requires bytes { length bytes.old ≡ row_bytes settings.now.params.shape settings.now.layout }
-    requires samples { length samples.old ≡ samples_in_row settings.now.params.shape settings.now.layout }
+    requires room { length room.old ≡ most * row_bytes settings.now.params.shape settings.now.layout }
     ensures coded { IfOk result (λ e. IsUnderWay settings.now.params e × (e.y ≡ (rows_of_order settings.now.params.order settings.now.params.shape).rows)
         × HasCome settings.now e (S.left source.old) (S.left source.new)) }
-    ensures long { length bytes.new ≡ length bytes.old }
+    ensures long { length room.new ≡ length room.old }
     ensures worked { OnOk result (S.failures source.new ≡ S.failures source.old) }
     ensures refused { IfErr result (IsRawRefusal settings.now.params.shape settings.now.params.kind settings.now.layout (S.left source.old)
         (S.failures source.old) (S.failures source.new)) }
     ensures told { IfErr result (ToldAsRead (S.failures source.old) (S.failures source.new)) }
     ensures bounded { IfErr result (λ _. GaveWithin (λ _. most_read settings.now.params.shape settings.now.layout) (S.left source.old) (S.left source.new)) }
 {
-    let params = &settings.params;
-    let rows = row_count(settings.layout, params.shape);
-    let mut row = row;
+    let rows = row_count(settings.layout, settings.params.shape);
+    let length = row_length(settings);
+    let mut taker = taker;
     let mut encoder = encoder;
     let mut y = 0;
     while y < rows {
-        row = read_row(
-            source,
-            params.shape,
-            settings.layout,
-            y,
-            row,
-            bytes,
-            samples,
-        )?;
-        encoder.row(params, samples)?;
-        y += 1;
+        let count = (most as u64).min(rows - y);
+        let bytes = &mut room[..count as usize * length];
+        taker = code_next(source, settings, y, count, taker, &mut encoder, bytes)?;
+        y += count;
     }
     Ok(encoder)
+}
+
+/// Reads the next `count` rows, from row `y` on, and hands them to the encoder.
+///
+/// Returns `Read` if the source fails, and `RawLength` if it ends within these rows; if a sample isn't of the kind, what `refusal` does; and
+/// `WantOfMemory` if an allocation fails.
+fn code_next<S: Source>(
+    source: &mut S,
+    settings: &CompressSettings,
+    y: u64,
+    count: u64,
+    taker: RowTaker,
+    encoder: &mut RowEncoder,
+    bytes: &mut [u8],
+) -> Result<RowTaker, Fault>
+    requires layout { IsLayout settings.now.layout }
+    requires together { GoTogether settings.now.layout.order settings.now.params.order }
+    requires taker { (most : ℕ) × (count ≤ most) × IsTaker settings.now most taker }
+    requires under_way { IsUnderWay settings.now.params encoder.old }
+    requires at { encoder.old.y ≡ y }
+    requires some { 1 ≤ count }
+    requires inside { y + count ≤ rows_in settings.now.params.shape settings.now.layout }
+    requires bytes { length bytes.old ≡ count * row_bytes settings.now.params.shape settings.now.layout }
+    ensures handed { OnOk result (HandedOn settings.now encoder.old encoder.new count bytes.new) }
+    ensures given { OnOk result (Gave (S.left source.old) (S.left source.new) bytes.new) }
+    ensures taker { IfOk result (λ t. (most : ℕ) → IsTaker settings.now most taker → IsTaker settings.now most t) }
+    ensures long { length bytes.new ≡ length bytes.old }
+    ensures worked { OnOk result (S.failures source.new ≡ S.failures source.old) }
+    ensures refused { IfErr result (λ e. (e ≡ WantOfMemory) ⊎ IsRowRefusal settings.now.params.shape settings.now.params.kind settings.now.layout y
+        (S.left source.old) (S.left source.new) (S.failures source.old) (S.failures source.new) e) }
+    ensures told { IfErr result (ToldAsRead (S.failures source.old) (S.failures source.new)) }
+    ensures bounded { GaveWithin (λ _. most_read settings.now.params.shape settings.now.layout - y * row_bytes settings.now.params.shape settings.now.layout)
+        (S.left source.old) (S.left source.new) }
+{
+    let (shape, layout) = (settings.params.shape, settings.layout);
+    read_rows(source, shape, layout, y, count, bytes)?;
+    match taker.hand_on(settings, count as usize, encoder, bytes) {
+        Ok(taker) => Ok(taker),
+        Err(fault) => Err(refusal(source, settings, y, count, fault, bytes)),
+    }
+}
+
+/// Returns why `count` rows, from row `y` on, aren't coded. They were read, and are refused with `fault`.
+///
+/// If a sample isn't of the kind, it reads on to the end: it returns `Read` or `RawLength` if the rest of the scene calls for these, else
+/// `SampleRange` with the sample's index in the scene.
+fn refusal<S: Source>(
+    source: &mut S,
+    settings: &CompressSettings,
+    y: u64,
+    count: u64,
+    fault: Fault,
+    bytes: &mut [u8],
+) -> Fault
+    requires layout { IsLayout settings.now.layout }
+    requires some { 1 ≤ count }
+    requires inside { y + count ≤ rows_in settings.now.params.shape settings.now.layout }
+    requires bytes { length bytes.old ≡ count * row_bytes settings.now.params.shape settings.now.layout }
+    requires fault { (fault ≡ WantOfMemory) ⊎ IsBadSample settings.now.params.kind settings.now.layout bytes.old fault }
+    ensures refused { (left : Option (List ℕ)) → Gave left (S.left source.old) bytes.old → (result ≡ WantOfMemory) ⊎ IsRowRefusal settings.now.params.shape
+        settings.now.params.kind settings.now.layout y left (S.left source.new) (S.failures source.old) (S.failures source.new) result }
+    ensures told { ToldAsRead (S.failures source.old) (S.failures source.new) result }
+    ensures bounded { (left : Option (List ℕ)) → Gave left (S.left source.old) bytes.old
+        → GaveWithin (λ _. most_read settings.now.params.shape settings.now.layout - y * row_bytes settings.now.params.shape settings.now.layout) left (S.left source.new) }
+    ensures long { length bytes.new ≡ length bytes.old }
+{
+    let (shape, layout) = (settings.params.shape, settings.layout);
+    // There are at most 2^32 rows.
+    let _rows = row_count(layout, shape);
+    match fault {
+        Fault::SampleRange { index } => {
+            let one = &mut bytes[..row_length(settings)];
+            match read_rest(source, shape, layout, y + count, one) {
+                Ok(()) => Fault::SampleRange {
+                    index: y * row_samples(layout, shape) + index,
+                },
+                Err(fault) => fault,
+            }
+        }
+        _ => fault,
+    }
 }

@@ -7,6 +7,7 @@ pub mod compress;
 pub mod expand;
 pub mod inspect;
 pub mod piped;
+mod row_taker;
 pub mod show;
 
 pub use command_devices::cut::{CutSink, CutSource};

@@ -1,3 +1,4 @@
 pub mod RowStreams
 pub mod Streams
 pub mod Told
+pub mod WideRows

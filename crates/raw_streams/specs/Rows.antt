@@ -1,4 +1,4 @@
--- Rows in a cube's raw bytes, of all bands or, in band sequential order, of one; and why one isn't read.
+-- Rows in a cube's raw bytes, of all bands or, in band sequential order, of one; and why they aren't read.
 use Rattle.std.specs.Prelude.{ℕ, ◌≡◌, ◌⊎◌, ◌+◌, ◌-◌, ◌*◌, ◌<◌, List, length, Option}
 use Rattle.cube_core.specs.declared.fault.Fault.{Fault}
 use Rattle.cube_core.specs.declared.fault.Fault.TheVariants.{RawLength, Read, SampleRange}
@@ -25,11 +25,12 @@ row_bytes s l = samples_in_row s l * l.bytes
 abbrev pub GaveRows : Sizes → Layout → ℕ → Option (List ℕ) → Option (List ℕ) → Type 0
 GaveRows s l y left now = (bytes : List ℕ) × Gave left now bytes × (length bytes ≡ (rows_in s l - y) * row_bytes s l) × IsEnd now
 
--- why row y isn't read: the source failed, or ended within it; the fault says how many bytes there were with those of the rows before
-abbrev pub IsCutOff : Sizes → Layout → ℕ → Option (List ℕ) → Option (List ℕ) → ℕ → ℕ → Fault → Type 0
-IsCutOff s l y left now failures failures_now fault =
+-- why `count` rows from the y-th on aren't read: the source failed, or ended within them; the fault says how many bytes there were with those of
+-- the rows before
+abbrev pub IsCutOff : Sizes → Layout → ℕ → ℕ → Option (List ℕ) → Option (List ℕ) → ℕ → ℕ → Fault → Type 0
+IsCutOff s l y count left now failures failures_now fault =
     ((fault ≡ Read) × Rose failures failures_now)
-    ⊎ ((bytes : List ℕ) × Gave left now bytes × IsEnd now × (length bytes < row_bytes s l) × (failures_now ≡ failures)
+    ⊎ ((bytes : List ℕ) × Gave left now bytes × IsEnd now × (length bytes < count * row_bytes s l) × (failures_now ≡ failures)
     × (fault ≡ RawLength (length_in s l) (y * row_bytes s l + length bytes)))
 
 -- the source, of which y rows came before, ends too early, or has a byte too many
@@ -43,7 +44,8 @@ IsRestRefusal s l y left now failures failures_now fault =
     ⊎ ((bytes : List ℕ) × Gave left now bytes × IsWrongRest s l y now (length bytes) × (failures_now ≡ failures)
     × (fault ≡ RawLength (length_in s l) (y * row_bytes s l + length bytes)))
 
--- why row y isn't taken: the rest isn't read to the end of the scene; or it is, and this is the first sample, in row y, that isn't of the kind
+-- why rows from the y-th on aren't taken: the rest isn't read to the end of the scene; or it is, and this is the first of its samples that isn't
+-- of the kind
 abbrev pub IsRowRefusal : Sizes → SampleKind → Layout → ℕ → Option (List ℕ) → Option (List ℕ) → ℕ → ℕ → Fault → Type 0
 IsRowRefusal s k l y left now failures failures_now fault =
     IsRestRefusal s l y left now failures failures_now fault

@@ -1,6 +1,6 @@
 //! The parts that go through a piece of memory.
 
-ghost use Rattle.std.specs.Prelude.{◌≡◌, ◌*◌, ◌<◌, ◌≤◌, ◌^◌};
+ghost use Rattle.std.specs.Prelude.{◌≡◌, ◌+◌, ◌*◌, ◌<◌, ◌≤◌, ◌^◌};
 ghost use Rattle.cube_core.specs.Layout.{IsLayout};
 ghost use Rattle.cube_core.specs.Parts.{IsPart, first_sample, part_samples, unit_count, unit_of};
 ghost use Rattle.raw_streams.specs.Rows.{rows_in, samples_in_row};
@@ -38,19 +38,19 @@ pub(crate) fn length_of(layout: Layout, shape: Shape, part: Part) -> usize
     (part.count * layout.unit(shape)) as usize * layout.bytes as usize
 }
 
-/// Returns the part that row `y` is.
-pub(crate) fn row_part(layout: Layout, shape: Shape, y: u64) -> Part
-    requires inside { y < rows_in shape layout }
+/// Returns the part that `count` rows are, from row `y` on.
+pub(crate) fn rows_part(layout: Layout, shape: Shape, y: u64, count: u64) -> Part
+    requires inside { y + count ≤ rows_in shape layout }
     ensures part { IsPart layout shape result }
     ensures first { first_sample layout shape result ≡ y * samples_in_row shape layout }
-    ensures samples { part_samples layout shape result ≡ samples_in_row shape layout }
+    ensures samples { part_samples layout shape result ≡ count * samples_in_row shape layout }
 {
     // There are at most 2^32 rows.
     let _rows = row_count(layout, shape);
     let units = u64::from(row_units(layout, shape));
     Part {
         first: y * units,
-        count: units,
+        count: count * units,
     }
 }
 

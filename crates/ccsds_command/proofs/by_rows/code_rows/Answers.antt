@@ -1,20 +1,18 @@
-use Rattle.std.proofs.Common.{[], ap, sym, refl, ◌∙◌, arith}
+use Rattle.std.proofs.Common.{◌+◌, ◌*◌, ◌≤◌, ℕ, [], drop, length, length-append, length-drop, length-take, refl, ap, ◌∙◌, arith}
 use Rattle.std.proofs.lemmas.Result.{err_from_is_err_and}
 use Rattle.raw_streams.proofs.Streams.{gave_none}
-use Rattle.cube_core.specs.Shape.{Sizes}
-use Rattle.file_encoding.proofs.FoundRows.{IsRow, all_in_range, row_is, same_rows}
-use Rattle.raw_rows.specs.OneRow.{rows_of_raw, samples_of_row}
-use Rattle.ccsds_command.proofs.Rows.{come_more, come_refused, come_with_row, come_within, none_found, still_wanted}
+use Rattle.raw_streams.specs.Rows.{rows_in}
+use Rattle.ccsds_command.proofs.HandingOn.{bytes_small, in_room}
+use Rattle.ccsds_command.proofs.Rows.{come_more, come_within, next_refused, none_found}
 use Rattle.ccsds_command.proofs.by_rows.code_rows.Goals as goal
 
 pub loop-y-init : goal.loop-y-init
 loop-y-init g c = record {
   within = omega arith;
-  row = c.requires.row;
+  taker = c.requires.taker;
   under = c.requires.under_way;
   at = c.requires.none.0;
-  bytes = c.requires.bytes;
-  samples = c.requires.samples;
+  room = refl;
   worked = refl;
   come = (
     [],
@@ -23,60 +21,67 @@ loop-y-init g c = record {
   );
 }
 
-pub returns-in_err-row-clause-refused : goal.returns-in_err-row-clause-refused
-returns-in_err-row-clause-refused g c =
-    let p = err_from_is_err_and c.from_residual.result c.from_residual.ensures.1 in
-    rw (p.1, p.2) (come_refused c.args.settings.now c.loop-y.encoder _ _ _ c.loop-y.invariant.come c.loop-y.row.kind c.loop-y.y _ _ _ _ c.loop-y.invariant.row.1
-    c.loop-y.invariant.at (omega (arith, c.loop-y-test.true, c.row_count-rows.ensures.value)) c.loop-y.invariant.worked c.in_err-row.ensures.refused)
+pub overflow_mul-bytes : goal.overflow_mul-bytes
+overflow_mul-bytes g c =
+    let inside : c.loop-y.y + c.min-count.result ≤ rows_in c.args.settings.now.params.shape c.args.settings.now.layout =
+    omega (arith, c.min-count.ensures, c.loop-y-test.true, c.row_count-rows.ensures.value) in
+    rw c.row_length-length.ensures.value (omega (
+      arith,
+      bytes_small c.args.settings.now.params.shape c.args.settings.now.layout c.loop-y.y
+          c.min-count.result c.requires.under_way.lawful.sizes c.requires.layout inside,
+    ))
 
-pub returns-in_err-row-clause-bounded : goal.returns-in_err-row-clause-bounded
-returns-in_err-row-clause-bounded g c =
+pub slice_bounds-bytes-end : goal.slice_bounds-bytes-end
+slice_bounds-bytes-end g c = in_room c.min-count.result c.args.most _ c.row_length-length.result _ (omega (arith, c.min-count.ensures))
+    c.row_length-length.ensures.value (c.loop-y.invariant.room ∙ c.requires.room)
+
+pub slice_bounds-bytes-end-in-loop-y : goal.slice_bounds-bytes-end-in-loop-y
+slice_bounds-bytes-end-in-loop-y g c =
+    let there : c.min-count.result * c.row_length-length.result ≤ length c.loop-y.room = in_room c.min-count.result c.args.most _
+    c.row_length-length.result _ (omega (arith, c.min-count.ensures)) c.row_length-length.ensures.value (c.loop-y.invariant.room ∙ c.requires.room) in
+    omega (arith, there, length-take (c.min-count.result * c.row_length-length.result) c.loop-y.room)
+
+pub code_next-requires-clause-bytes : goal.code_next-requires-clause-bytes
+code_next-requires-clause-bytes g c =
+    let there : c.min-count.result * c.row_length-length.result ≤ length c.loop-y.room = in_room c.min-count.result c.args.most _
+    c.row_length-length.result _ (omega (arith, c.min-count.ensures)) c.row_length-length.ensures.value (c.loop-y.invariant.room ∙ c.requires.room) in
+    let same = ap (λ (n : ℕ). c.min-count.result * n) c.row_length-length.ensures.value in
+    omega (arith, there, length-take (c.min-count.result * c.row_length-length.result) c.loop-y.room, same)
+
+pub code_next-requires-clause-taker : goal.code_next-requires-clause-taker
+code_next-requires-clause-taker g c = (c.args.most, omega (arith, c.min-count.ensures), c.loop-y.invariant.taker)
+
+pub returns-in_err-taker-clause-refused : goal.returns-in_err-taker-clause-refused
+returns-in_err-taker-clause-refused g c =
+    let p = err_from_is_err_and c.from_residual.result c.from_residual.ensures.1 in
+    rw (p.1, p.2) (next_refused c.args.settings.now c.loop-y.encoder _ _ _ c.loop-y.invariant.come c.loop-y.y _ _ _ _ c.loop-y.invariant.at
+    (omega (arith, c.loop-y-test.true, c.row_count-rows.ensures.value)) c.loop-y.invariant.worked c.in_err-taker.ensures.refused)
+
+pub returns-in_err-taker-clause-bounded : goal.returns-in_err-taker-clause-bounded
+returns-in_err-taker-clause-bounded g c =
     let p = err_from_is_err_and c.from_residual.result c.from_residual.ensures.1 in
     rw p.1 (come_within c.args.settings.now c.loop-y.encoder (g.S.Source.left c.args.source.now) (g.S.Source.left c.loop-y.source)
-    (g.S.Source.left c.read_row.new.source) c.loop-y.invariant.come c.loop-y.y c.loop-y.invariant.at
-    (omega (arith, c.loop-y-test.true, c.row_count-rows.ensures.value)) c.in_err-row.ensures.bounded)
-
-pub row-requires-clause-range : goal.row-requires-clause-range
-row-requires-clause-range g c = all_in_range (rows_of_raw c.args.settings.now.layout.order c.args.settings.now.params.shape) c.args.settings.now.params.kind c.args.settings.now.layout c.in_ok-row.row
-    c.read_row.new.bytes c.read_row.new.samples (row_is (rows_of_raw c.args.settings.now.layout.order c.args.settings.now.params.shape) c.args.settings.now.params.kind c.loop-y.row.kind
-    c.args.settings.now.layout c.in_ok-row.row c.read_row.new.bytes c.read_row.new.samples c.loop-y.invariant.row.1
-    (c.in_ok-row.ensures.lengths.1 ∙ c.loop-y.invariant.samples) c.in_ok-row.ensures.row)
-
-pub returns-in_err-row-2-clause-bounded : goal.returns-in_err-row-2-clause-bounded
-returns-in_err-row-2-clause-bounded g c =
-    let p = err_from_is_err_and c.from_residual-in_err-row-2.result c.from_residual-in_err-row-2.ensures.1 in
-    rw p.1 (come_with_row c.args.settings.now c.loop-y.encoder (g.S.Source.left c.args.source.now) (g.S.Source.left c.loop-y.source)
-    (g.S.Source.left c.read_row.new.source) c.loop-y.invariant.come c.read_row.new.bytes c.in_ok-row.ensures.given
-    (c.in_ok-row.ensures.lengths.0 ∙ c.loop-y.invariant.bytes)
-    (omega (arith, c.loop-y-test.true, c.row_count-rows.ensures.value, c.loop-y.invariant.at)))
+    (g.S.Source.left c.code_next.new.source) c.loop-y.invariant.come c.loop-y.y c.loop-y.invariant.at
+    (omega (arith, c.loop-y-test.true, c.row_count-rows.ensures.value)) c.in_err-taker.ensures.bounded)
 
 pub loop-y-preserved : goal.loop-y-preserved
 loop-y-preserved g c =
-    let s = c.args.settings.now in
-    let row : IsRow (rows_of_raw c.args.settings.now.layout.order c.args.settings.now.params.shape) c.args.settings.now.params.kind c.args.settings.now.layout c.in_ok-row.row c.read_row.new.bytes
-    c.read_row.new.samples = row_is (rows_of_raw c.args.settings.now.layout.order c.args.settings.now.params.shape) c.args.settings.now.params.kind c.loop-y.row.kind
-    c.args.settings.now.layout c.in_ok-row.row c.read_row.new.bytes c.read_row.new.samples c.loop-y.invariant.row.1
-    (c.in_ok-row.ensures.lengths.1 ∙ c.loop-y.invariant.samples) c.in_ok-row.ensures.row in
+    let n = c.min-count.result * c.row_length-length.result in
     record {
-      within = omega (arith, c.loop-y-test.true);
-      row = (c.in_ok-row.ensures.row.1, c.in_ok-row.ensures.row.2 ∙ c.loop-y.invariant.row.1);
-      under = c.in_ok-row-2.ensures.under_way;
-      at = omega (arith, c.in_ok-row-2.ensures.handed.1, c.loop-y.invariant.at);
-      bytes = c.in_ok-row.ensures.lengths.0 ∙ c.loop-y.invariant.bytes;
-      samples = c.in_ok-row.ensures.lengths.1 ∙ c.loop-y.invariant.samples;
-      worked = c.in_ok-row.ensures.worked ∙ c.loop-y.invariant.worked;
+      within = omega (arith, c.min-count.ensures, c.loop-y-test.true);
+      taker = c.in_ok-taker.ensures.taker c.args.most c.loop-y.invariant.taker;
+      under = c.in_ok-taker.ensures.handed.under_way;
+      at = omega (arith, c.in_ok-taker.ensures.handed.y, c.loop-y.invariant.at);
+      room = omega (
+        arith,
+        length-append c.code_next.new.bytes (drop n c.loop-y.room),
+        length-drop n c.loop-y.room,
+        length-take n c.loop-y.room,
+        c.in_ok-taker.ensures.long,
+        c.loop-y.invariant.room,
+      );
+      worked = c.in_ok-taker.ensures.worked ∙ c.loop-y.invariant.worked;
       come = come_more c.args.settings.now c.loop-y.encoder (g.S.Source.left c.args.source.now) (g.S.Source.left c.loop-y.source)
-          (g.S.Source.left c.read_row.new.source) c.loop-y.invariant.come c.row.new.self c.in_ok-row.row c.read_row.new.bytes c.read_row.new.samples
-          c.requires.layout c.requires.together c.loop-y.invariant.under (omega (arith, c.loop-y-test.true, c.row_count-rows.ensures.value, c.loop-y.invariant.at)) row
-          c.in_ok-row.ensures.given c.in_ok-row-2.ensures.handed.1 c.in_ok-row-2.ensures.handed.0;
+          (g.S.Source.left c.code_next.new.source) c.loop-y.invariant.come c.code_next.new.encoder c.min-count.result c.code_next.new.bytes
+          c.in_ok-taker.ensures.given c.in_ok-taker.ensures.handed;
     }
-
-pub row-requires-clause-more : goal.row-requires-clause-more
-row-requires-clause-more g c =
-    still_wanted c.args.settings.now c.loop-y.encoder.y c.row_count-rows.result c.requires.together c.row_count-rows.ensures.value
-    (omega (arith, c.loop-y-test.true, c.loop-y.invariant.at))
-
-pub row-requires-clause-size : goal.row-requires-clause-size
-row-requires-clause-size g c =
-    c.in_ok-row.ensures.lengths.1 ∙ c.loop-y.invariant.samples
-    ∙ ap (λ (t : Sizes). samples_of_row t) (same_rows c.args.settings.now.layout.order c.args.settings.now.params.order c.args.settings.now.params.shape c.requires.together)

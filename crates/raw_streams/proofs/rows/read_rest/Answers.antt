@@ -5,7 +5,7 @@ use Rattle.cube_core.specs.Layout.{IsLayout}
 use Rattle.command_devices.proofs.Devices.{gave_more}
 use Rattle.raw_streams.specs.Rows.{GaveRows, IsRestRefusal, row_bytes, rows_in, samples_in_row}
 use Rattle.raw_streams.proofs.Streams.{all_came, gave_none, within_more}
-use Rattle.raw_streams.proofs.RowStreams.{on_ok_both, rows_none, rest_cut_off, rest_too_long, room_for_row, room_for_byte}
+use Rattle.raw_streams.proofs.RowStreams.{on_ok_both, rows_none, rest_cut_off, rest_too_long, room_for_rows, room_for_byte}
 use Rattle.raw_streams.proofs.rows.read_rest.Goals as goal
 
 -- one row more has a row's bytes
@@ -29,33 +29,33 @@ loop-done-init g c = record {
   come = ([], gave_none (g.S.Source.left c.args.source.now), rows_none c.args.y (row_bytes c.args.shape c.args.layout));
 }
 
-pub returns-in_err-read_row_bytes-clause-refused : goal.returns-in_err-read_row_bytes-clause-refused
-returns-in_err-read_row_bytes-clause-refused g c =
+pub returns-in_err-read_rows-clause-refused : goal.returns-in_err-read_rows-clause-refused
+returns-in_err-read_rows-clause-refused g c =
     let p = err_from_is_err_and c.from_residual.result c.from_residual.ensures.1 in
     let come = c.loop-done.invariant.come in
     rw (p.1, p.2) (rest_cut_off c.args.shape c.args.layout c.args.y c.loop-done.done _ _ _ come.0 _ _ _ c.loop-done.invariant.within.0 come.1 come.2
-    c.loop-done.invariant.worked _ (omega (arith, c.loop-done-test.true, c.row_count-rows.ensures.value)) c.in_err-read_row_bytes.ensures.refused)
+    c.loop-done.invariant.worked 1 _ (omega (arith, c.loop-done-test.true, c.row_count-rows.ensures.value)) c.in_err-read_rows.ensures.refused)
 
-pub returns-in_err-read_row_bytes-clause-bounded : goal.returns-in_err-read_row_bytes-clause-bounded
-returns-in_err-read_row_bytes-clause-bounded g c =
+pub returns-in_err-read_rows-clause-bounded : goal.returns-in_err-read_rows-clause-bounded
+returns-in_err-read_rows-clause-bounded g c =
     let come = c.loop-done.invariant.come in
-    within_more _ _ _ come.0 _ _ come.1 c.in_err-read_row_bytes.ensures.bounded (room_for_row c.args.shape c.args.layout c.args.y c.loop-done.done _
+    within_more _ _ _ come.0 _ _ come.1 c.in_err-read_rows.ensures.bounded (room_for_rows c.args.shape c.args.layout c.args.y c.loop-done.done 1 _
     c.loop-done.invariant.within.0 (omega (arith, c.loop-done-test.true, c.row_count-rows.ensures.value)) come.2)
 
 pub loop-done-preserved : goal.loop-done-preserved
 loop-done-preserved g c =
     let come = c.loop-done.invariant.come in
-    let long : length c.read_row_bytes.new.bytes ≡ row_bytes c.args.shape c.args.layout =
-    c.in_ok-read_row_bytes.ensures.long ∙ c.loop-done.invariant.long in
+    let long : length c.read_rows.new.bytes ≡ row_bytes c.args.shape c.args.layout =
+    c.in_ok-read_rows.ensures.long ∙ c.loop-done.invariant.long in
     record {
       within = (omega (arith, c.loop-done.invariant.within.0), omega (arith, c.loop-done-test.true));
       long = long;
       some = c.loop-done.invariant.some;
-      worked = c.in_ok-read_row_bytes.ensures.worked ∙ c.loop-done.invariant.worked;
+      worked = c.in_ok-read_rows.ensures.worked ∙ c.loop-done.invariant.worked;
       come = (
-        come.0 ++ c.read_row_bytes.new.bytes,
-        gave_more _ _ _ come.0 _ come.1 c.in_ok-read_row_bytes.ensures.given,
-        length-append come.0 c.read_row_bytes.new.bytes
+        come.0 ++ c.read_rows.new.bytes,
+        gave_more _ _ _ come.0 _ come.1 c.in_ok-read_rows.ensures.given,
+        length-append come.0 c.read_rows.new.bytes
             ∙ rows_more c.args.y c.loop-done.done (row_bytes c.args.shape c.args.layout) _ _ c.loop-done.invariant.within.0 come.2 long,
       );
     }
