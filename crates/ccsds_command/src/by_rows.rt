@@ -36,6 +36,9 @@ const MOST_SAMPLES: u64 = 1 << 24;
 /// The planes that are kept beside those of the previous bands, in band-sequential order: those of the eight bands in hand.
 const PLANES: u64 = 8;
 
+/// The samples from which on an image is large: to hold one of fewer takes less than 2 MB, and planes have to be cleared first.
+const LARGE: u64 = 1 << 20;
+
 /// The most samples in the planes that are kept.
 const MOST_PLANE_SAMPLES: u64 = 1 << 28;
 
@@ -59,12 +62,19 @@ fn has_short_rows(params: &Params) -> bool {
     shape.rows() >= FEWEST_ROWS && row <= MOST_SAMPLES
 }
 
-/// Returns whether the planes that are kept in band-sequential order are fewer than those of the image, and not too much.
+/// Returns whether the planes that are kept in band-sequential order are fewer than those of the image, or of a small image at most a
+/// third of them; and not too much.
 fn has_few_planes(params: &Params) -> bool {
     let shape = params.shape;
     let kept = u64::from(params.previous) + PLANES;
     let plane = u64::from(shape.rows()) * u64::from(shape.columns());
-    kept < u64::from(shape.bands()) && kept * plane <= MOST_PLANE_SAMPLES
+    let bands = u64::from(shape.bands());
+    let most = if bands * plane < LARGE {
+        bands / 3
+    } else {
+        bands - 1
+    };
+    kept <= most && kept * plane <= MOST_PLANE_SAMPLES
 }
 
 /// Returns the file of the cube whose raw bytes the source has. Beside the file, it keeps the rows, or the planes, that prediction reads,
