@@ -22,8 +22,8 @@
  *     says. Such a pointer may be null where that number is 0;
  *   - nothing that a call writes overlaps anything else that it is given.
  * There is no state between calls but that of a ccsds123_encoder: any number of threads may call at once, and one thread makes all calls
- * of an encoder. Memory comes from malloc, two bytes for each sample, and where a scene is coded its file, too, and by band at most two
- * rows of all bands and eight of one; it is given back before a call returns, and what an encoder keeps once that is ended or freed. No
+ * of an encoder. Memory comes from malloc, two bytes for each sample, and where a scene is coded its file, too, at most two rows of all
+ * bands, and by band eight of one; it is given back before a call returns, and what an encoder keeps once that is ended or freed. No
  * call may be made from a signal handler, nor in the forked child of a process with threads. */
 #ifndef CCSDS123_H
 #define CCSDS123_H
