@@ -125,15 +125,15 @@ def by_rows(room):
     """Checks that `compress` holds the file and little else where raw bytes come as they are coded: at most 0.45 of the raw bytes.
 
     That is a few rows where both interleave the bands, and 11 planes where both are band sequential. The scenes have a third of their raw bytes left
-    in their files. The planes of the fourth scene are a sixth of it, and its limit has no room for eight planes more. The last scenes have 16 bands, and
-    one more than planes are kept; their limits have no room for all planes and the file."""
+    in their files. The planes of the fourth scene are a sixth of it, and its limit has no room for eight planes more. The last scenes have 16 and 15
+    bands, the fewest of which planes are kept; their limits have no room for all planes and the file."""
     for shape, layout, order, times in (
         ((1_024, 2_048, 24), "bil", ["bi", "--depth", 1], 0.45),
         ((1_024, 2_048, 24), "bip", ["bi", "--depth", 24], 0.45),
         ((1_024, 128, 400), "bsq", ["bsq"], 0.45),
         ((1_024, 1_024, 64), "bsq", ["bsq"], 0.54),
         ((1_024, 3_072, 16), "bsq", ["bsq"], 1.05),
-        ((1_024, 8_192, 12), "bsq", ["bsq"], 1.26),
+        ((1_024, 4_096, 15), "bsq", ["bsq"], 1.09),
     ):
         a_third(room, f"{shape} by {layout}, row by row in {times} times its bytes", shape, layout, order, times)
 
@@ -145,7 +145,7 @@ def in_place(room):
     0.31 of the raw bytes, and its memory at most an eighth more. An encoder that keeps planes, of half of the bands and at most seven, does without them
     where they can't be had; so each limit has room for them, but not for the file, too. The last limit is the bound that holds of every scene."""
     for shape, layout, times in (
-        ((1_024, 4_608, 11), "bsq", 1.46),
+        ((1_024, 4_096, 14), "bsq", 1.46),
         ((1_024, 1_600, 32), "bip", 1.35),
         ((1_024, 1_024, 64), "bil", 1.35),
         ((1_024, 3_072, 16), "bip", 1.44),

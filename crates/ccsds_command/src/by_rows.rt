@@ -62,8 +62,8 @@ fn has_short_rows(params: &Params) -> bool {
     shape.rows() >= FEWEST_ROWS && row <= MOST_SAMPLES
 }
 
-/// Returns whether the planes that are kept in band-sequential order are fewer than those of the image, or of a small image at most a
-/// third of them; and not too much.
+/// Returns whether the planes that are kept in band-sequential order are at most three quarters of the image, or a third of a small one;
+/// and not too much.
 fn has_few_planes(params: &Params) -> bool {
     let shape = params.shape;
     let kept = u64::from(params.previous) + PLANES;
@@ -72,7 +72,7 @@ fn has_few_planes(params: &Params) -> bool {
     let most = if bands * plane < LARGE {
         bands / 3
     } else {
-        bands - 1
+        bands * 3 / 4
     };
     kept <= most && kept * plane <= MOST_PLANE_SAMPLES
 }
