@@ -59,7 +59,7 @@ module _ (bands : List BandState) (at counter : ℕ) (accumulators : List ℕ) w
       let here : at + n < length before = omega (arith, inside, lanes_count n) in
       let states = lane_states settings n (omega (arith, inside)) was (λ j lt. statistics j (omega (arith, lt))) in
       let old = states (at + n) here in
-      state_set settings before (at + n) (lane_state before n) here (record { statistics = statistics n (omega arith); k = old.k; power = old.power }) states
+      state_set settings before (at + n) (lane_state before n) here (record { statistics = statistics n (omega arith); k = old.k }) states
 
 -- the statistics of a lane with one more residual
 pub next_lane : (size : ℕ) (s : Statistics) (x h : ℕ) → AreStatistics size s → h ≡ bool_byte (eqb s.counter (2 ^ size - 1))

@@ -1,7 +1,7 @@
 -- What is kept of bands, and their statistics.
-use Rattle.std.proofs.Common.{◌≡◌, ◌<◌, ◌≤◌, ◌++◌, ℕ, List, length, take, get_or, set, refl, sym, ap, subst, ◌∙◌, inl, inr, arith}
+use Rattle.std.proofs.Common.{◌≡◌, ◌<◌, ◌≤◌, ℕ, List, length, set, refl, sym, ap, subst, ◌∙◌, inl, inr, arith}
 use Rattle.std.proofs.lemmas.Bool.{cases_eq}
-use Rattle.std.proofs.lemmas.List.{get_or-map, get_or_default, get_or-set_same, get_or-set_other, length-map, length-set, map-set, set-get_or, take_at}
+use Rattle.std.proofs.lemmas.List.{get_or-map, get_or-set_same, get_or-set_other, length-map, length-set, map-set, set-get_or}
 use Rattle.sample_adaptive.specs.declared.code_settings.CodeSettings.{CodeSettings}
 use Rattle.sample_adaptive.specs.declared.statistics.Statistics.{Statistics}
 use Rattle.sample_adaptive.specs.declared.band_state.BandState.{BandState}
@@ -54,15 +54,13 @@ module _ (v : CoderState) (items : List BandState) (same : statistics_of items �
   pub band_inside : z < length items
   band_inside = omega (arith, lt, ap length same, statistics_count items)
 
-  pub band_own : (t : BandState) → t ≡ get_or items z t → of_band v.bands z ≡ t.statistics
-  band_own t is =
-      rw (← same) (statistics_at items z band_inside)
-      ∙ ap (λ (k : BandState). k.statistics) (sym (is ∙ get_or_default items z t no_state band_inside))
+  pub band_own : (t : BandState) → t ≡ state_of items z → of_band v.bands z ≡ t.statistics
+  band_own t is = rw (← same) (statistics_at items z band_inside) ∙ ap (λ (k : BandState). k.statistics) (sym is)
 
   -- what is kept of it, and what is kept of it anew
   module _ (settings : CodeSettings) (was : AreBandStates settings items) (t : BandState) where
-    pub state_own : t ≡ get_or items z t → IsBandState settings t
-    state_own is = subst (IsBandState settings) (sym (is ∙ get_or_default items z t no_state band_inside)) (was z band_inside)
+    pub state_own : t ≡ state_of items z → IsBandState settings t
+    state_own is = subst (IsBandState settings) (sym is) (was z band_inside)
 
     pub state_anew : IsBandState settings t → AreBandStates settings (set items z t)
     state_anew here = state_set settings items z t band_inside here was
@@ -70,17 +68,10 @@ module _ (v : CoderState) (items : List BandState) (same : statistics_of items �
   pub count_stays : (t : BandState) → length (statistics_of (set items z t)) ≡ length v.bands
   count_stays t = omega (arith, statistics_count (set items z t), length-set items z t, statistics_count items, ap length same)
 
--- all of them in a slice, and others in its place
-module _ (v : CoderState) (items : List BandState) (same : statistics_of items ≡ v.bands) (slice : List BandState) (is : slice ≡ items) where
-  pub slice_holds : (n : ℕ) → n ≤ length v.bands → n ≤ length slice
-  slice_holds n le = omega (arith, le, ap length same, statistics_count items, ap length is)
+-- others in the place of all of them
+module _ (v : CoderState) (items : List BandState) (same : statistics_of items ≡ v.bands) where
+  pub bands_hold : (n : ℕ) → n ≤ length v.bands → n ≤ length items
+  bands_hold n le = omega (arith, le, ap length same, statistics_count items)
 
-  module _ (len : ℕ) (new rest : List BandState) (long : length new ≡ length slice) (full : length slice ≡ len) where
-    pub slice_is_new : take len (new ++ rest) ≡ new
-    slice_is_new = take_at new rest len (long ∙ full)
-
-    pub slice_states : (settings : CodeSettings) → AreBandStates settings new → AreBandStates settings (take len (new ++ rest))
-    slice_states settings h = rw slice_is_new h
-
-    pub slice_count : length (statistics_of (take len (new ++ rest))) ≡ length v.bands
-    slice_count = rw slice_is_new (omega (arith, statistics_count new, statistics_count items, ap length same, long, ap length is))
+  pub bands_count : (new : List BandState) → length new ≡ length items → length (statistics_of new) ≡ length v.bands
+  bands_count new long = omega (arith, statistics_count new, statistics_count items, ap length same, long)

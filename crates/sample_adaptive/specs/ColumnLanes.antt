@@ -10,3 +10,8 @@ with_lanes bands at counter accumulators zero = bands
 with_lanes bands at counter accumulators (suc n) =
     let before = with_lanes bands at counter accumulators n in
     slice_set before (at + n) (record (state_of before (at + n)) { statistics = record { counter = counter; accumulator = number accumulators n } })
+
+-- a list with n other numbers, from index `at` on
+unfoldable pub with_numbers : List ℕ → ℕ → List ℕ → ℕ → List ℕ
+with_numbers numbers at lanes zero = numbers
+with_numbers numbers at lanes (suc n) = slice_set (with_numbers numbers at lanes n) (at + n) (number lanes n)

@@ -16,8 +16,6 @@ pub(crate) struct BandState {
     pub statistics: Statistics,
     /// k, the code parameter of an earlier residual.
     pub k: u32,
-    /// 2^k.
-    pub power: u32,
 }
 
 impl BandState {
@@ -30,11 +28,7 @@ impl BandState {
         ensures state { IsBandState settings result }
     {
         let k = parameter(settings.bits, statistics);
-        BandState {
-            statistics,
-            k,
-            power: 1 << k,
-        }
+        BandState { statistics, k }
     }
 
     /// Returns the state with these statistics, and a code parameter that need not be theirs.
@@ -45,11 +39,7 @@ impl BandState {
         ensures k { result.k ≡ k }
         ensures state { (settings : CodeSettings) → AreStatistics settings.rescaling.size statistics → k + 2 ≤ settings.bits → IsBandState settings result }
     {
-        BandState {
-            statistics,
-            k,
-            power: 1 << k,
-        }
+        BandState { statistics, k }
     }
 
     /// Updates the code parameter to that of the statistics.

@@ -11,6 +11,7 @@ ghost use Rattle.sample_adaptive.specs.Thresholds.{AreThresholds};
 ghost use Rattle.sample_adaptive.specs.BandStates.{IsBandState, AreBandStates, statistics_of};
 
 use crate::band_state::BandState;
+use crate::band_states::BandStates;
 use crate::code_settings::CodeSettings;
 use crate::code_word::{Code, take_from, take_word};
 use crate::eight_column::take_eight;
@@ -84,7 +85,7 @@ fn take_column(
     z: usize,
     t: u64,
     index: u64,
-    bands: &mut [BandState],
+    bands: &mut BandStates,
     reader: &mut BitReader,
     residuals: &mut [u16],
 ) -> Result<(), Fault>
@@ -99,6 +100,8 @@ fn take_column(
     ensures long { length residuals.new ≡ length residuals.old }
     ensures bands { length bands.new ≡ length bands.old }
 {
+    // Only the proof needs this: the bands can be counted.
+    let _count = bands.len();
     if t == 0 {
         return take_each(settings, z, true, index, bands, reader, residuals);
     }
@@ -127,7 +130,7 @@ fn take_ready(
     thresholds: &[u32],
     z: usize,
     index: u64,
-    bands: &mut [BandState],
+    bands: &mut BandStates,
     reader: &mut BitReader,
     residuals: &mut [u16],
 ) -> usize
@@ -146,7 +149,7 @@ fn take_ready(
     if residuals.is_empty() {
         return 0;
     }
-    let counter = bands[z].statistics.counter;
+    let counter = bands.get(z).statistics.counter;
     let mut ahead = reader.fork();
     let mut i = 0;
     while i < residuals.len() {
@@ -211,7 +214,7 @@ fn take_each(
     z: usize,
     first: bool,
     index: u64,
-    bands: &mut [BandState],
+    bands: &mut BandStates,
     reader: &mut BitReader,
     residuals: &mut [u16],
 ) -> Result<(), Fault>
@@ -226,12 +229,15 @@ fn take_each(
     ensures long { length residuals.new ≡ length residuals.old }
     ensures bands { length bands.new ≡ length bands.old }
 {
+    // Only the proof needs this: the bands can be counted.
+    let _count = bands.len();
     for i in 0..residuals.len() {
-        let state = &mut bands[z + i];
-        match take_residual(settings, first, index + i as u64, state, reader) {
+        let mut state = bands.get(z + i);
+        match take_residual(settings, first, index + i as u64, &mut state, reader) {
             Ok(residual) => residuals[i] = residual,
             Err(fault) => return Err(fault),
         }
+        bands.set(z + i, state);
     }
     Ok(())
 }

@@ -4,13 +4,12 @@ ghost use Rattle.std.specs.Prelude.{◌≡◌, ◌+◌, ◌-◌, ◌*◌, ◌/�
 ghost use Rattle.std.specs.List.{AllByRecursion};
 ghost use Rattle.lanes.specs.Lanes.{number};
 ghost use Rattle.sample_adaptive.specs.BandStates.{AreBandStates, state_of};
-ghost use Rattle.sample_adaptive.specs.ColumnLanes.{with_lanes};
 ghost use Rattle.word_lanes.specs.EightWords.{AreShort, word_text};
 ghost use Rattle.sample_adaptive.specs.Runs.{code_with};
 ghost use Rattle.sample_adaptive.specs.Statistics.{next_statistics, code_parameter};
 ghost use Rattle.sample_adaptive.specs.Words.{code_word};
 
-use crate::band_state::BandState;
+use crate::band_states::BandStates;
 use crate::code_settings::CodeSettings;
 use lanes::eight;
 use std::simd::prelude::*;
@@ -35,7 +34,7 @@ pub(crate) struct CodedBands {
 pub(crate) fn coded(
     settings: CodeSettings,
     counter: u32,
-    bands: &[BandState],
+    bands: &BandStates,
     at: usize,
     residuals: &[u16],
     i: usize,
@@ -52,7 +51,7 @@ pub(crate) fn coded(
     ensures statistics { IsTrue result.alike → (j : ℕ) → j < 8 → record { counter = result.counter; accumulator = number result.accumulators j }
         ≡ next_statistics settings.rescaling.size (state_of bands.now (at + j)).statistics (slice_index_or residuals.now (i + j) 0) }
 {
-    let before = gathered(bands, at);
+    let before = bands.gathered(at);
     let numbers = taken(residuals, i);
     let accumulators = u32x8::from_array(before.accumulators);
     let k = parameters(settings.bits, counter, accumulators);
@@ -68,32 +67,6 @@ pub(crate) fn coded(
         parameters,
         counter: (counter + 1) >> halving,
         accumulators: after,
-    }
-}
-
-/// The statistics of eight bands, lane by lane.
-#[derive(Clone, Copy)]
-pub(crate) struct EightStatistics {
-    pub counters: [u32; 8],
-    pub accumulators: [u32; 8],
-}
-
-/// Returns the statistics of eight bands, from band `at` on.
-#[inline(always)]
-pub(crate) fn gathered(bands: &[BandState], at: usize) -> EightStatistics
-    requires { at + 8 ≤ length bands.now }
-    ensures counters { (j : ℕ) → j < 8 → number result.counters j ≡ (state_of bands.now (at + j)).statistics.counter }
-    ensures accumulators { (j : ℕ) → j < 8 → number result.accumulators j ≡ (state_of bands.now (at + j)).statistics.accumulator }
-{
-    let mut counters = [0; 8];
-    let mut accumulators = [0; 8];
-    for j in 0..8usize {
-        counters[j] = bands[at + j].statistics.counter;
-        accumulators[j] = bands[at + j].statistics.accumulator;
-    }
-    EightStatistics {
-        counters,
-        accumulators,
     }
 }
 
@@ -165,18 +138,4 @@ fn short_words(limit: u32, k: u32x8, residuals: u16x8) -> Fitting
     };
     let fit = eight::are_within(lengths, most);
     Fitting { fit, words }
-}
-
-/// Gives eight bands, from band `at` on, a counter and their accumulators.
-// Each number by itself: of both in one struct the compiler first makes a word of 64 bits.
-#[inline(always)]
-pub(crate) fn store(bands: &mut [BandState], at: usize, counter: u32, accumulators: &[u32; 8])
-    requires { at + 8 ≤ length bands.old }
-    ensures { bands.new ≡ with_lanes bands.old at counter accumulators.now 8 }
-{
-    for j in 0..8usize {
-        let statistics = &mut bands[at + j].statistics;
-        statistics.counter = counter;
-        statistics.accumulator = accumulators[j];
-    }
 }

@@ -8,9 +8,9 @@ ghost use Rattle.sample_adaptive.specs.Statistics.{next_statistics};
 ghost use Rattle.sample_adaptive.specs.Taken.{CoderState, HasSettings, Reaches};
 ghost use Rattle.sample_adaptive.specs.WordParts.{InSteps, IsWordNext, spelt_by, zeros_of};
 
-use crate::band_state::BandState;
+use crate::band_states::BandStates;
 use crate::code_settings::CodeSettings;
-use crate::column_lanes::{gathered, parameters, store, summed};
+use crate::column_lanes::{parameters, summed};
 use crate::word_parts::{WordParts, take_apart};
 use header_bits::bit_reader::BitReader;
 use lanes::eight;
@@ -26,7 +26,7 @@ pub(crate) fn take_eight(
     settings: CodeSettings,
     counter: u32,
     z: usize,
-    bands: &mut [BandState],
+    bands: &mut BandStates,
     reader: &mut BitReader,
     i: usize,
     residuals: &mut [u16],
@@ -45,11 +45,13 @@ pub(crate) fn take_eight(
     ensures long { length residuals.new ≡ length residuals.old }
     ensures bands { length bands.new ≡ length bands.old }
 {
+    // Only the proof needs this: the bands can be counted.
+    let _count = bands.len();
     let mut ahead = reader.fork();
     let Some(read) = read_bands(settings, counter, bands, z + i, &mut ahead) else {
         return 0;
     };
-    store(bands, z + i, read.counter, &read.accumulators);
+    bands.store(z + i, read.counter, &read.accumulators);
     put_numbers(residuals, i, &read.numbers);
     *reader = ahead;
     8
@@ -81,7 +83,7 @@ struct ReadBands {
 fn read_bands(
     settings: CodeSettings,
     counter: u32,
-    bands: &[BandState],
+    bands: &BandStates,
     at: usize,
     reader: &mut BitReader,
 ) -> Option<ReadBands>
@@ -93,7 +95,7 @@ fn read_bands(
         ≡ next_statistics settings.rescaling.size (state_of bands.now (at + j)).statistics (number read.numbers j)) }
     ensures count { reader.new.count ≡ reader.old.count }
 {
-    let before = gathered(bands, at);
+    let before = bands.gathered(at);
     if !eight::are_all(u32x8::from_array(before.counters), counter) {
         return None;
     }

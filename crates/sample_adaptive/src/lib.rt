@@ -3,6 +3,7 @@
 
 mod alike_run;
 mod band_state;
+mod band_states;
 mod code_settings;
 pub mod code_word;
 pub mod column;

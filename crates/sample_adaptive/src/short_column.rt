@@ -10,6 +10,7 @@ ghost use Rattle.sample_adaptive.specs.Thresholds.{AreThresholds};
 ghost use Rattle.sample_adaptive.specs.BandStates.{IsBandState, AreBandStates, statistics_of};
 
 use crate::band_state::BandState;
+use crate::band_states::BandStates;
 use crate::code_settings::CodeSettings;
 use crate::code_word::Code;
 use crate::column::take_known;
@@ -29,7 +30,7 @@ pub(crate) fn take_next(
     thresholds: &[u32],
     index: u64,
     z: usize,
-    bands: &mut [BandState],
+    bands: &mut BandStates,
     reader: &mut BitReader,
     i: usize,
     residuals: &mut [u16],
@@ -90,7 +91,7 @@ fn take_four(
     settings: CodeSettings,
     thresholds: &[u32],
     z: usize,
-    bands: &mut [BandState],
+    bands: &mut BandStates,
     reader: &mut BitReader,
     i: usize,
     residuals: &mut [u16],
@@ -126,7 +127,7 @@ fn take_some(
     thresholds: &[u32],
     index: u64,
     z: usize,
-    bands: &mut [BandState],
+    bands: &mut BandStates,
     reader: &mut BitReader,
     i: usize,
     residuals: &mut [u16],
@@ -145,16 +146,19 @@ fn take_some(
     ensures long { length residuals.new ≡ length residuals.old }
     ensures bands { length bands.new ≡ length bands.old }
 {
+    // Only the proof needs this: the bands can be counted.
+    let _count = bands.len();
     let few = (residuals.len() - i).min(3);
     let taken = take_few(settings, thresholds, few, z, bands, reader, i, residuals);
     if taken > 0 {
         return taken;
     }
     let Some(word) = reader.peek() else { return 0 };
-    let band = &mut bands[z + i];
-    let Ok(residual) = take_known(settings, index, word, band, reader) else {
+    let mut band = bands.get(z + i);
+    let Ok(residual) = take_known(settings, index, word, &mut band, reader) else {
         return 0;
     };
+    bands.set(z + i, band);
     residuals[i] = residual;
     1
 }
@@ -169,7 +173,7 @@ fn take_few(
     thresholds: &[u32],
     few: usize,
     z: usize,
-    bands: &mut [BandState],
+    bands: &mut BandStates,
     reader: &mut BitReader,
     i: usize,
     residuals: &mut [u16],
@@ -189,15 +193,19 @@ fn take_few(
     ensures long { length residuals.new ≡ length residuals.old }
     ensures bands { length bands.new ≡ length bands.old }
 {
+    // Only the proof needs this: the bands can be counted.
+    let _count = bands.len();
     let Some(word) = reader.peek() else { return 0 };
     let most = most_bits(settings.bits, few);
     let mut bits = word;
     let mut taken = 0;
     while taken < few {
-        let band = &mut bands[z + i + taken];
-        let Some(residual) = take_short(settings, thresholds, most, band, &mut bits, reader) else {
+        let mut band = bands.get(z + i + taken);
+        let Some(residual) = take_short(settings, thresholds, most, &mut band, &mut bits, reader)
+        else {
             break;
         };
+        bands.set(z + i + taken, band);
         residuals[i + taken] = residual as u16;
         taken += 1;
     }
@@ -239,7 +247,7 @@ fn take_short(
         k: band.k,
         bits: settings.bits,
     };
-    let residual = take_short_word(code, band.power, most, bits, reader)?;
+    let residual = take_short_word(code, 1 << band.k, most, bits, reader)?;
     band.count(settings, residual as u16);
     Some(residual)
 }

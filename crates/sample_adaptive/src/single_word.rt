@@ -44,10 +44,10 @@ impl Stats {
         ensures count { reader.new.count ≡ reader.old.count }
         ensures bands { (length self.new.bands ≡ length self.old.bands) × (self.new.bits ≡ self.old.bits) }
     {
-        let mut state = self.bands[z as usize];
+        let mut state = self.bands.get(z as usize);
         match take_residual(self.settings, t == 0, t, &mut state, reader) {
             Ok(residual) => {
-                self.bands[z as usize] = state;
+                self.bands.set(z as usize, state);
                 Ok(residual)
             }
             Err(fault) => {

@@ -12,6 +12,7 @@ ghost use Rattle.sample_adaptive.specs.Thresholds.{AreThresholds};
 ghost use Rattle.sample_adaptive.specs.Words.{code_word};
 
 use crate::band_state::BandState;
+use crate::band_states::BandStates;
 use crate::code_settings::CodeSettings;
 use crate::read_run::take_words;
 use crate::statistics::{Rescaling, first};
@@ -30,7 +31,7 @@ use std::marker::Model;
 #[derive(Drop)]
 pub struct Stats {
     pub(crate) settings: CodeSettings,
-    pub(crate) bands: Vec<BandState>,
+    pub(crate) bands: BandStates,
     /// By the counter, how large the accumulator has to be for each code parameter.
     pub(crate) thresholds: Vec<u32>,
     /// The fault for which a read was refused, if one was: every later read is refused for the same.
@@ -48,11 +49,11 @@ impl Model for Stats {
       bits = s.settings.bits;
       umax = s.settings.limit;
       gamma_star = s.settings.rescaling.size;
-      bands = statistics_of s.bands.items;
+      bands = statistics_of s.bands;
       refused = s.refused;
     } };
 
-    ghost invariant = { λ s. AreBandStates s.settings s.bands.items };
+    ghost invariant = { λ s. AreBandStates s.settings s.bands };
 }
 
 impl Stats {
@@ -118,10 +119,10 @@ impl Stats {
         ensures refused { IfErr result (λ e. e ≡ WantOfMemory) }
         ensures bands { (length self.new.bands ≡ length self.old.bands) × (self.new.bits ≡ self.old.bits) }
     {
-        let mut band = self.bands[z as usize];
+        let mut band = self.bands.get(z as usize);
         let word = next_word(self.settings, t == 0, &mut band, delta);
         writer.push(word.bits, word.length)?;
-        self.bands[z as usize] = band;
+        self.bands.set(z as usize, band);
         Ok(())
     }
 
@@ -175,10 +176,11 @@ impl Stats {
         let run = LaterRun {
             settings: self.settings,
             thresholds: &self.thresholds,
-            state: self.bands[z as usize],
+            state: self.bands.get(z as usize),
             residuals,
         };
-        self.bands[z as usize] = replace_with(writer, run, put_words);
+        let state = replace_with(writer, run, put_words);
+        self.bands.set(z as usize, state);
     }
 
     /// Reads residuals `t`, `t + 1`, .. of band `z`, whose code words come next, into `residuals`, and updates the band's
@@ -211,7 +213,7 @@ impl Stats {
             return Err(fault);
         }
         // Copies go ahead: they stay in registers, and a refusal leaves what they were made of.
-        let mut band = self.bands[z as usize];
+        let mut band = self.bands.get(z as usize);
         let mut ahead = reader.fork();
         match take_words(
             self.settings,
@@ -223,7 +225,7 @@ impl Stats {
             residuals,
         ) {
             Ok(()) => {
-                self.bands[z as usize] = band;
+                self.bands.set(z as usize, band);
                 *reader = ahead;
                 Ok(())
             }
@@ -242,19 +244,19 @@ fn first_of_all(
     gamma_zero: u32,
     start: &CountStart,
     count: u32,
-) -> Result<Vec<BandState>, Fault>
+) -> Result<BandStates, Fault>
     requires exponent { (gamma_zero ≤ 8) × (gamma_zero + 1 ≤ settings.rescaling.size) }
     requires entries { HasEntries count start.now }
     requires constants { (z : ℕ) → z < count → constant_of start.now z ≤ 14 }
-    ensures count { IfOk result (λ v. length v.items ≡ count) }
-    ensures first { IfOk result (λ v. (z : ℕ) → z < count → of_band (statistics_of v.items) z ≡ start_statistics gamma_zero (constant_of start.now z)) }
-    ensures state { IfOk result (λ v. AreBandStates settings v.items) }
+    ensures count { IfOk result (λ v. length v ≡ count) }
+    ensures first { IfOk result (λ v. (z : ℕ) → z < count → of_band (statistics_of v) z ≡ start_statistics gamma_zero (constant_of start.now z)) }
+    ensures state { IfOk result (λ v. AreBandStates settings v) }
     ensures refused { IfErr result (λ e. e ≡ WantOfMemory) }
 {
-    let mut bands = Vec::with_capacity(alloc, count as usize)?;
+    let mut bands = BandStates::new(alloc, count as usize)?;
     for z in 0..count {
         let statistics = first(gamma_zero, constant(start, z));
-        bands.push(BandState::of(settings, statistics))?;
+        bands.set(z as usize, BandState::of(settings, statistics));
     }
     Ok(bands)
 }

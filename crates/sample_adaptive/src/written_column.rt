@@ -10,9 +10,10 @@ ghost use Rattle.sample_adaptive.specs.BandStates.{IsBandState, AreBandStates, s
 ghost use Rattle.sample_adaptive.specs.Thresholds.{AreThresholds};
 
 use crate::band_state::BandState;
+use crate::band_states::BandStates;
 use crate::code_settings::CodeSettings;
 use crate::code_word::{Code, Word, word_of};
-use crate::column_lanes::{coded, store};
+use crate::column_lanes::coded;
 use crate::stats::Stats;
 use crate::written_run::make_room;
 use crate::written_singly::{put_each, put_long_words};
@@ -50,7 +51,7 @@ impl Stats {
     {
         make_room(residuals.len(), writer)?;
         // The writer is taken out for as long, so that it stays in registers.
-        let nothing = BitWriter::new(*self.bands.allocator());
+        let nothing = BitWriter::new(self.bands.allocator());
         let ahead = replace(writer, nothing);
         let settings = self.settings;
         *writer = put_words_of(
@@ -74,7 +75,7 @@ fn put_words_of(
     thresholds: &[u32],
     z: u32,
     t: u64,
-    bands: &mut [BandState],
+    bands: &mut BandStates,
     residuals: &[u16],
 ) -> BitWriter
     requires table { AreThresholds settings.bits settings.rescaling.size thresholds.now }
@@ -102,7 +103,7 @@ fn put_later(
     settings: CodeSettings,
     thresholds: &[u32],
     z: u32,
-    bands: &mut [BandState],
+    bands: &mut BandStates,
     residuals: &[u16],
 ) -> BitWriter
     requires table { AreThresholds settings.bits settings.rescaling.size thresholds.now }
@@ -120,7 +121,7 @@ fn put_later(
     if residuals.is_empty() {
         return writer;
     }
-    let counter = bands[z as usize].statistics.counter;
+    let counter = bands.get(z as usize).statistics.counter;
     let mut writer = writer;
     let mut i = 0;
     while i + 8 <= residuals.len() {
@@ -157,7 +158,7 @@ fn put_eight(
     thresholds: &[u32],
     counter: u32,
     at: usize,
-    bands: &mut [BandState],
+    bands: &mut BandStates,
     residuals: &[u16],
 ) -> BitWriter
     requires table { AreThresholds settings.bits settings.rescaling.size thresholds.now }
@@ -177,7 +178,7 @@ fn put_eight(
 {
     let coded = coded(settings, counter, bands, at, residuals, 0);
     if coded.alike {
-        store(bands, at, coded.counter, &coded.accumulators);
+        bands.store(at, coded.counter, &coded.accumulators);
         if coded.short {
             return push_eight(writer, coded.words);
         }

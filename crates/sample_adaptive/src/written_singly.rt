@@ -10,6 +10,7 @@ ghost use Rattle.sample_adaptive.specs.BandStates.{IsBandState, AreBandStates, s
 ghost use Rattle.sample_adaptive.specs.Thresholds.{AreThresholds};
 
 use crate::band_state::BandState;
+use crate::band_states::BandStates;
 use crate::code_settings::CodeSettings;
 use crate::code_word::{Code, word_of};
 use header_bits::bit_writer::BitWriter;
@@ -22,7 +23,7 @@ pub(crate) fn put_each(
     settings: CodeSettings,
     thresholds: &[u32],
     at: usize,
-    bands: &mut [BandState],
+    bands: &mut BandStates,
     residuals: &[u16],
 ) -> BitWriter
     requires table { AreThresholds settings.bits settings.rescaling.size thresholds.now }
@@ -38,15 +39,13 @@ pub(crate) fn put_each(
     ensures still { result.room ≤ writer.room }
     ensures room { writer.room ≤ result.room + 48 * length residuals.now }
 {
+    // Only the proof needs this: the bands can be counted.
+    let _count = bands.len();
     let mut writer = writer;
     for i in 0..residuals.len() {
-        writer = put_one(
-            writer,
-            settings,
-            thresholds,
-            &mut bands[at + i],
-            residuals[i],
-        );
+        let mut state = bands.get(at + i);
+        writer = put_one(writer, settings, thresholds, &mut state, residuals[i]);
+        bands.set(at + i, state);
     }
     writer
 }

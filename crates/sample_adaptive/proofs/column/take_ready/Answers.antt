@@ -9,8 +9,8 @@ use Rattle.sample_adaptive.proofs.column.take_ready.Goals.{then-residuals-i-ge8+
 
 pub take_eight-taken-requires-clause-counter : goal.take_eight-taken-requires-clause-counter
 take_eight-taken-requires-clause-counter c =
-    counter_range _ _ c.args.settings.rescaling.size_in.1
-    (c.requires.state c.args.z (omega (arith, c.requires.inside, c.loop-i-test.true, c.loop-i.invariant.long))).statistics
+    rw c.get-counter.ensures (counter_range _ _ c.args.settings.rescaling.size_in.1
+    (c.requires.state c.args.z (omega (arith, c.requires.inside, c.loop-i-test.true, c.loop-i.invariant.long))).statistics)
 
 pub loop-i-init : goal.loop-i-init
 loop-i-init c =

@@ -1,10 +1,10 @@
-use Rattle.std.proofs.Common.{ℕ, ◌≡◌, ◌+◌, sym, ap, subst, ◌∙◌, arith}
+use Rattle.std.proofs.Common.{ℕ, ◌≡◌, ◌+◌, length, sym, ap, subst, ◌∙◌, arith}
 use Rattle.header_bits.specs.Bits.{Unread}
 use Rattle.sample_adaptive.specs.BandStates.{statistics_of}
 use Rattle.sample_adaptive.specs.Statistics.{AreStatistics}
 use Rattle.sample_adaptive.proofs.Counting.{next_in_range}
 use Rattle.sample_adaptive.proofs.EightColumn.{lanes_reached, unread_same}
-use Rattle.sample_adaptive.proofs.LaneStates.{lane_states}
+use Rattle.sample_adaptive.proofs.LaneStates.{lane_states, lanes_count}
 use Rattle.sample_adaptive.proofs.PlacesRead.{same_start}
 use Rattle.sample_adaptive.proofs.eight_column.take_eight.Goals as goal
 
@@ -31,3 +31,7 @@ returns-clause-state c =
     (λ j lt. subst (AreStatistics settings.rescaling.size) (sym (c.in-Some.ensures.statistics j lt))
     (next_in_range settings.rescaling.size _ _ settings.rescaling.size_in.0 (c.requires.state (at + j) (omega (arith, c.requires.inside, c.requires.within, lt))).statistics
     (omega (arith, c.put_numbers.ensures.numbers j lt, (c.type_inv.residuals (c.args.i + j)).fits)))))
+
+pub returns-clause-bands : goal.returns-clause-bands
+returns-clause-bands c =
+    let read = c.in-Some.read in ap length c.store.ensures ∙ lanes_count c.args.bands.now (c.args.z + c.args.i) read.counter read.accumulators 8

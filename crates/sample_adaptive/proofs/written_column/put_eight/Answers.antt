@@ -1,4 +1,4 @@
-use Rattle.std.proofs.Common.{ℕ, List, Bool, ◌≡◌, ◌+◌, get_or, sym, ap, subst, ◌∙◌, arith}
+use Rattle.std.proofs.Common.{ℕ, List, Bool, ◌≡◌, ◌+◌, length, get_or, sym, ap, subst, ◌∙◌, arith}
 use Rattle.std.proofs.lemmas.List.{take_all}
 use Rattle.lanes.specs.Lanes.{number}
 use Rattle.sample_adaptive.specs.BandStates.{state_of}
@@ -9,7 +9,7 @@ use Rattle.sample_adaptive.specs.Statistics.{AreStatistics, next_statistics}
 use Rattle.sample_adaptive.specs.Words.{code_word}
 use Rattle.sample_adaptive.proofs.Columns.{lanes_put}
 use Rattle.sample_adaptive.proofs.Counting.{next_in_range}
-use Rattle.sample_adaptive.proofs.LaneStates.{lane_states}
+use Rattle.sample_adaptive.proofs.LaneStates.{lane_states, lanes_count}
 use Rattle.sample_adaptive.proofs.written_column.put_eight.Goals as goal
 
 first : (j : ℕ) → 0 + j ≡ j
@@ -68,3 +68,11 @@ returns-then-coded-clause-state c =
     (λ j lt. subst (AreStatistics settings.rescaling.size) (sym (c.coded-coded.ensures.statistics c.if-coded.true j lt))
     (next_in_range settings.rescaling.size _ _ settings.rescaling.size_in.0 (c.requires.state (c.args.at + j) (omega (arith, c.requires.inside, c.requires.eight, lt))).statistics
     (omega (arith, (c.type_inv.residuals (0 + j)).fits)))))
+
+pub returns-then-coded-2-clause-bands : goal.returns-then-coded-2-clause-bands
+returns-then-coded-2-clause-bands c =
+    let r = c.coded-coded.result in ap length c.store.ensures ∙ lanes_count c.args.bands.now c.args.at r.counter r.accumulators 8
+
+pub returns-then-coded-clause-bands : goal.returns-then-coded-clause-bands
+returns-then-coded-clause-bands c =
+    let r = c.coded-coded.result in ap length c.store.ensures ∙ lanes_count c.args.bands.now c.args.at r.counter r.accumulators 8

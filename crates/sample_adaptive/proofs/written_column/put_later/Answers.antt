@@ -9,7 +9,7 @@ use Rattle.sample_adaptive.proofs.written_column.put_later.Goals as goal
 
 pub put_eight-writer-requires-clause-counter : goal.put_eight-writer-requires-clause-counter
 put_eight-writer-requires-clause-counter c =
-    counter_range _ _ c.args.settings.rescaling.size_in.1 (c.requires.state c.args.z (omega (arith, c.requires.inside, c.loop-i-test.true))).statistics
+    rw c.get-counter.ensures (counter_range _ _ c.args.settings.rescaling.size_in.1 (c.requires.state c.args.z (omega (arith, c.requires.inside, c.loop-i-test.true))).statistics)
 
 pub loop-i-preserved : goal.loop-i-preserved
 loop-i-preserved c =

@@ -4,7 +4,7 @@ use Rattle.sample_adaptive.proofs.ForSamples.{settings_bits}
 use Rattle.speed.specs.Bodies.{AreOfBits, one_band_body}
 use Rattle.speed.proofs.Coded.{coded_none, coded_more, whole_text, none_greater}
 use Rattle.speed.proofs.sample_coder.encoded.Goals as goal
-use Rattle.speed.proofs.sample_coder.encoded.Goals.{After-drop-stats-inside-3, else-loop-t-test, then-loop-t-test+then-number-gt-MOST}
+use Rattle.speed.proofs.sample_coder.encoded.Goals.{else-loop-t-test, then-loop-t-test+then-number-gt-MOST}
 
 pub loop-t-init : goal.loop-t-init
 loop-t-init c = record {
@@ -25,16 +25,15 @@ loop-t-preserved c =
           (take c.loop-t.t c.args.numbers.now) c.loop-t.writer.bits c.put.new.writer.bits c.loop-t.invariant.coded c.in_ok-put.ensures.taken long);
     }
 
--- where no number is greater all were taken
-all_taken : (c : After-drop-stats-inside-3) → AreOfBits 12 c.args.numbers.now → take c.loop-t.t c.args.numbers.now ≡ c.args.numbers.now
-all_taken c small = elim c.loop-t-test.branch [
-  | else-loop-t-test w ↦ take_all c.loop-t.t c.args.numbers.now w.loop-t-test.false
-  | then-loop-t-test+then-number-gt-MOST w ↦
-      absurd (none_greater 12 c.args.numbers.now c.loop-t.t small w.loop-t-test.true (omega (arith, w.if-number-gt-MOST.true)))
-]
-
 pub returns-clause-body : goal.returns-clause-body
 returns-clause-body c =
+    -- where no number is greater all were taken
+    let all : AreOfBits 12 c.args.numbers.now → take c.loop-t.t c.args.numbers.now ≡ c.args.numbers.now =
+    λ small. elim c.loop-t-test.branch [
+      | else-loop-t-test w ↦ take_all c.loop-t.t c.args.numbers.now w.loop-t-test.false
+      | then-loop-t-test+then-number-gt-MOST w ↦
+          absurd (none_greater 12 c.args.numbers.now c.loop-t.t small w.loop-t-test.true (omega (arith, w.if-number-gt-MOST.true)))
+    ] in
     whole_text c.whole_bytes.result (AreOfBits 12 c.args.numbers.now) c.loop-t.writer.bits
     (one_band_body c.args.params.now c.args.numbers.now) c.whole_bytes.ensures.filled
-    (λ small. c.loop-t.invariant.coded.text ∙ ap (one_band_body c.args.params.now) (all_taken c small))
+    (λ small. c.loop-t.invariant.coded.text ∙ ap (one_band_body c.args.params.now) (all small))

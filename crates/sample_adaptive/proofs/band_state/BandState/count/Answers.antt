@@ -12,7 +12,6 @@ returns-clause-state c =
     record {
       statistics = halved;
       k = c.requires.k;
-      power = c.requires.power;
     }
 
 pub returns-then-self-settings-clause-value : goal.returns-then-self-settings-clause-value
