@@ -222,7 +222,8 @@ def main(crates):
         sys.exit(f"attack.py: no crate {lacking[0]} with edits")
     tried = [it for it in counts if not crates or it in crates]
     with tempfile.TemporaryDirectory(prefix="attack-") as room, ThreadPoolExecutor(lanes()) as pool:
-        with ThreadPoolExecutor(len(tried)) as each:
+        # As many crates as checks, so that a crate ends before the last ones begin.
+        with ThreadPoolExecutor(lanes()) as each:
             well = sum(each.map(lambda it: run(Attack(it, libraries, Path(room)), pool), sorted(tried, key=lambda it: -counts[it])))
     every = sum(counts[it] for it in tried)
     print(f"{well} passed, {every - well} failed")
