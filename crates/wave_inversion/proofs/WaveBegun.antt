@@ -9,6 +9,7 @@ use Rattle.predict_core.specs.declared.settings.Settings.{Settings}
 use Rattle.predict_core.specs.Following.{PredictorState}
 use Rattle.predict_core.specs.BandLanes.{HasWeights}
 use Rattle.wave_inversion.specs.Inversion.{AreAhead, band_at}
+use Rattle.wave_inversion.specs.Wave.{Lower}
 use Rattle.wave_inversion.specs.WaveForms.{WaveForm}
 use Rattle.wave_inversion.specs.WaveLanes.{AreInStep, AreToBegin, column_at}
 use Rattle.wave_inversion.specs.WaveRows.{AreFilled}
@@ -16,7 +17,7 @@ use Rattle.wave_inversion.specs.WaveTiles.{IsFormOf, StandAsWave}
 
 -- what is known before step 8
 pub record IsBegun (q : ℕ) (f : WaveForm) (c : Image) (bands : List PredictorState) (first y origin last : ℕ) (base : Settings)
-    (above numbers lower own weights : List (List ℤ)) : Type 0 where
+    (above numbers : List (List ℤ)) (lower : Lower) (own weights : List (List ℤ)) : Type 0 where
   pub few : q ≤ 9
   pub pairs : f.pairs ≤ q
   pub some : first < length bands

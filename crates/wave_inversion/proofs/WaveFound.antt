@@ -14,7 +14,7 @@ use Rattle.predict_core.specs.declared.settings.Settings.{Settings}
 use Rattle.wave_inversion.specs.declared.found.Found.{Found}
 use Rattle.predict_core.specs.Following.{PredictorState}
 use Rattle.wave_inversion.specs.Inversion.{IsInverting, band_at}
-use Rattle.wave_inversion.specs.Wave.{AreOffsetRows}
+use Rattle.wave_inversion.specs.Wave.{Lower, AreOffsetRows}
 use Rattle.wave_inversion.specs.WaveForms.{WaveForm}
 use Rattle.wave_inversion.specs.WaveLanes.{AreLanes, AreInStep, AreToBegin, column_at}
 use Rattle.wave_inversion.specs.WaveTiles.{AreCollected, AreFound, ended, rows_at_end}
@@ -23,7 +23,7 @@ use Rattle.wave_inversion.proofs.WaveForms.{constants_at}
 use Rattle.wave_inversion.proofs.WaveBegun.{IsBegun}
 use Rattle.wave_inversion.proofs.WaveTiles.{lanes_begun, start_begun, to_begin, same_made, count_is, enough_at}
 
-module _ {q : ℕ} {f : WaveForm} {c : Image} {bands : List PredictorState} {first y origin last : ℕ} {base : Settings} {above numbers lower own weights : List (List ℤ)}
+module _ {q : ℕ} {f : WaveForm} {c : Image} {bands : List PredictorState} {first y origin last : ℕ} {base : Settings} {above numbers : List (List ℤ)} {lower : Lower} {own weights : List (List ℤ)}
     (k : IsBegun q f c bands first y origin last base above numbers lower own weights) where
   abbrev pub settings : ℕ → Settings
   settings b = constants_at base (first + b)

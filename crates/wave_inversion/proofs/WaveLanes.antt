@@ -1,6 +1,6 @@
 -- One step of a wavefront: in each lane it finds the sample of the band, and what is needed for the next.
-use Rattle.std.proofs.Common.{◌≡◌, ◌+◌, ◌-◌, ◌*◌, ◌^◌, ◌<◌, ◌≤◌, nat_le, ℕ, ℤ, pos, ◌-ℤ◌, ◌*ℤ◌, Bool, true, false}
-use Rattle.std.proofs.Common.{List, [], ◌∷◌, ◌++◌, length, take, replicate, get_or, refl, sym, ap, ◌∙◌, subst, inl, inr, arith, if◌then◌else◌}
+use Rattle.std.proofs.Common.{◌≡◌, ◌+◌, ◌-◌, ◌*◌, ◌^◌, ◌<◌, ◌≤◌, ℕ, ℤ, pos, ◌-ℤ◌, ◌*ℤ◌, Bool, true, false}
+use Rattle.std.proofs.Common.{List, [], ◌∷◌, ◌++◌, length, take, replicate, get_or, refl, sym, ap, ◌∙◌, subst, inl, inr, arith}
 use Rattle.std.proofs.lemmas.Nat.{mul-le}
 use Rattle.std.proofs.lemmas.Bool.{cases_lt, cases_Bool, cases_eq}
 use Rattle.std.proofs.lemmas.Bool.Decides.{nat_tests}
@@ -24,9 +24,9 @@ use Rattle.predict_core.specs.declared.settings.Settings.{Settings}
 use Rattle.predict_core.specs.Offsets.{number_at}
 use Rattle.predict_core.specs.Rooms.{lower_difference}
 use Rattle.predict_core.specs.RunChains.{AreStepsThere}
-use Rattle.wave_inversion.specs.Wave.{sum_at, component_in, lagged_in}
+use Rattle.wave_inversion.specs.Wave.{Lower, sum_at, component_in, diagonal_in, lagged_in}
 use Rattle.wave_inversion.specs.WaveForms.{WaveForm}
-use Rattle.wave_inversion.specs.WaveLanes.{AreLanes, AreInStep, column_at}
+use Rattle.wave_inversion.specs.WaveLanes.{AreLanes, AreInStep, column_at, lower_central}
 use Rattle.wave_inversion.specs.WaveSteps.{IsStepped, offset_by}
 use Rattle.predict_core.specs.BandLanes.{IsPart}
 use Rattle.predict_core.proofs.Following.{follows_by, residual_by}
@@ -35,13 +35,13 @@ use Rattle.predict_core.proofs.Components.{reduced_at, direction_at, full_at, th
 use Rattle.predict_core.proofs.LaneVectors.{weights_are}
 use Rattle.predict_core.proofs.LanePlaces.{place_scaled, place_next}
 use Rattle.predict_core.proofs.Quads.{lower_none}
-use Rattle.wave_inversion.proofs.WaveParts.{component_direction, component_lagged, component_none, lagged_low, lagged_high, first_of}
+use Rattle.wave_inversion.proofs.WaveParts.{component_direction, component_lagged, component_none, diagonal_low, diagonal_high, lagged_near, lagged_far, first_of}
 use Rattle.wave_inversion.proofs.WaveOffsets.{sum_told, central_told, directions_told, offset_found, offset_sum}
 
 -- ---- a component of a lane
 
 -- the place of a lane that has begun, in a step up to its last column
-module _ {q : ℕ} {f : WaveForm} {p : Params} {s : ℕ → Settings} {d : Image} {first y origin last n : ℕ} {above lower numbers own weights : List (List ℤ)}
+module _ {q : ℕ} {f : WaveForm} {p : Params} {s : ℕ → Settings} {d : Image} {first y origin last n : ℕ} {above : List (List ℤ)} {lower : Lower} {numbers own weights : List (List ℤ)}
     (lanes : AreLanes q f p s d first y origin last above lower) (k : ℕ) (step : (8 ≤ k) × (k < last)) (begun : (n ≤ 8) × (n + 7 ≤ origin + k))
     (now : AreInStep q p s d first y origin last n k numbers own weights) (b : ℕ) (mine : b < n) (exists : first + b < d.shape.bands) (right : column_at origin k b < d.shape.columns) where
   abbrev x : ℕ
@@ -68,13 +68,14 @@ module _ {q : ℕ} {f : WaveForm} {p : Params} {s : ℕ → Settings} {d : Image
   wide : (s b).predictor.column ≡ false → 2 ≤ d.shape.columns
   wide h = omega (arith, left, right)
 
-  low_is : (lag : ℕ) → lag ≤ 7 → lag ≤ (s 0).predictor.previous → b < lag → (if nat_le 8 (first + (8 + b - lag)) then central_difference (s 0).predictor d (first + (8 + b - lag) - 8) y x else pos 0)
+  -- a band so many below is at another place among lower bands
+  low_is : (lag below place : ℕ) → lag ≤ (s 0).predictor.previous → place + lag ≡ z + below → lower_central (s 0).predictor d below place y x
       ≡ lower_difference (s b).predictor d z y x lag
   unfolding lower_difference
-  low_is lag few used low = elim (cases_lt z lag) [
-    | inl none ↦ rw made (grind (arith, nat_tests, none, low, few))
-    | inr one ↦ (let same : first + (8 + b - lag) - 8 ≡ z - lag = omega (arith, one, low, few) in
-        rw (made, same) (grind (arith, nat_tests, one, low, few, used)))
+  low_is lag below place used at = elim (cases_lt z lag) [
+    | inl none ↦ rw made (grind (arith, nat_tests, none, at))
+    | inr one ↦ (let same : place - below ≡ z - lag = omega (arith, one, at) in
+        rw (made, same) (grind (arith, nat_tests, one, at, used)))
   ]
 
   high_is : (lag : ℕ) → lag ≤ (s 0).predictor.previous → lag ≤ b → central_difference (s 0).predictor d (first + (b - lag)) y x ≡ lower_difference (s b).predictor d z y x lag
@@ -82,17 +83,39 @@ module _ {q : ℕ} {f : WaveForm} {p : Params} {s : ℕ → Settings} {d : Image
   high_is lag used high = let same : first + (b - lag) ≡ z - lag = omega (arith, high) in rw (made, same) (grind (arith, nat_tests, high, used))
 
   -- the central difference of a previous band at the column of the lane
-  lag_told : (lag : ℕ) → 1 ≤ lag → lag ≤ (s 0).predictor.previous → lag ≤ 7 → lagged_in lower own k lag b ≡ lower_difference (s b).predictor d z y x lag
-  lag_told lag some used few = elim (cases_lt b lag) [
+  near_told : (lag : ℕ) → 1 ≤ lag → lag ≤ (s 0).predictor.previous → lag ≤ 7 → diagonal_in lower.near own k lag b ≡ lower_difference (s b).predictor d z y x lag
+  near_told lag some used few = elim (cases_lt b lag) [
     | inl low ↦
-        (let at : column_at origin (k - lag + 8) (8 + b - lag) ≡ x = omega (arith, low, few, step.0) in
-        let there = lanes.below (k - lag) (8 + b - lag) (omega (arith, few, step.0)) (omega (arith, step.1)) (omega (arith, low))
+        (let at : column_at (origin + 8) (k - lag) (8 + b - lag) ≡ x = omega (arith, low, few, step.0) in
+        let there = lanes.near (k - lag) (8 + b - lag) (omega (arith, few, step.0)) (omega (arith, step.1)) (omega (arith, low))
         (omega (arith, used, lanes.previous)) (rw at left) (rw at right) in
-        sym (lagged_low lower own k lag b low) ∙ there ∙ rw at (low_is lag few used low))
+        sym (diagonal_low lower.near own k lag b low) ∙ there ∙ rw at (low_is lag 8 (first + (8 + b - lag)) used (omega (arith, few))))
     | inr high ↦
         (let at : column_at origin (k - lag) (b - lag) ≡ x = omega (arith, high, few, step.0) in
         let there = now.centrals (k - lag) (b - lag) (omega (arith, high, step.0, fits)) (omega (arith, some, step.0)) (omega (arith, mine)) (omega (arith, exists)) (rw at left) (rw at right) in
-        sym (lagged_high lower own k lag b high) ∙ there ∙ rw at (high_is lag used high))
+        sym (diagonal_high lower.near own k lag b high) ∙ there ∙ rw at (high_is lag used high))
+  ]
+
+  -- of one that is eight bands further below
+  far_told : (lag : ℕ) → lag ≤ 7 → lag + 8 ≤ (s 0).predictor.previous → diagonal_in lower.far lower.beside k lag b ≡ lower_difference (s b).predictor d z y x (lag + 8)
+  far_told lag few used = elim (cases_lt b lag) [
+    | inl low ↦
+        (let at : column_at (origin + 8) (k - lag) (8 + b - lag) ≡ x = omega (arith, low, few, step.0) in
+        let there = lanes.far (k - lag) (8 + b - lag) (omega (arith, few, step.0)) (omega (arith, step.1)) (omega (arith, low))
+        (omega (arith, used, lanes.previous)) (omega (arith, used, lanes.previous)) (rw at left) (rw at right) in
+        sym (diagonal_low lower.far lower.beside k lag b low) ∙ there ∙ rw at (low_is (lag + 8) 16 (first + (8 + b - lag)) used (omega (arith, few))))
+    | inr high ↦
+        (let at : column_at origin (k - lag) (b - lag) ≡ x = omega (arith, high, few, step.0) in
+        let there = lanes.beside (k - lag) (b - lag) (omega (arith, few, step.0)) (omega (arith, step.1)) (omega (arith, fits))
+        (omega (arith, used, lanes.previous)) (rw at left) (rw at right) in
+        sym (diagonal_high lower.far lower.beside k lag b high) ∙ there ∙ rw at (low_is (lag + 8) 8 (first + (b - lag)) used (omega (arith, high))))
+  ]
+
+  lag_told : (lag : ℕ) → 1 ≤ lag → lag ≤ (s 0).predictor.previous → lag ≤ 15 → lagged_in lower own k lag b ≡ lower_difference (s b).predictor d z y x lag
+  lag_told lag some used few = elim (cases_lt lag 8) [
+    | inl near ↦ sym (lagged_near lower own k lag b near) ∙ near_told lag some used (omega (arith, near))
+    | inr far ↦ (let whole : lag - 8 + 8 ≡ lag = omega (arith, far) in
+        sym (lagged_far lower own k lag b far) ∙ rw whole at (far_told (lag - 8) (omega (arith, few)) (omega (arith, used, far))))
   ]
 
   abbrev vector : List ℤ
@@ -152,7 +175,7 @@ module _ {q : ℕ} {f : WaveForm} {p : Params} {s : ℕ → Settings} {d : Image
             → place directions index b ≡ get_or (u ∷ v ∷ w ∷ []) index (pos 0)
         direction_is index low {u} {v} {w} a c e = three (λ i. place directions i b ≡ get_or (u ∷ v ∷ w ∷ []) i (pos 0)) a c e index low
 
-    component_told : (index : ℕ) → f.previous ≤ 7 → component_in f.reduced f.previous directions lower own k index b ≡ get_or vector index (pos 0)
+    component_told : (index : ℕ) → f.previous ≤ 15 → component_in f.reduced f.previous directions lower own k index b ≡ get_or vector index (pos 0)
     component_told index few = elim (cases_lt index (first_of f.reduced)) [
       | inl direction ↦ sym (component_direction f.reduced f.previous directions lower own k index b direction) ∙ direction_told index direction
       | inr after ↦ elim (cases_lt (index - first_of f.reduced) f.previous) [
@@ -167,7 +190,7 @@ module _ {q : ℕ} {f : WaveForm} {p : Params} {s : ℕ → Settings} {d : Image
 
   -- what the step makes
   module _ {numbers' own' weights' : List (List ℤ)} (stepped : IsStepped q f k above lower numbers own weights numbers' own' weights')
-      (few : f.previous ≤ 7) (long : length weights ≡ 9) (within : AllWithin (2 ^ (f.omega + 2)) (weights_of q b weights)) where
+      (few : f.previous ≤ 15) (long : length weights ≡ 9) (within : AllWithin (2 ^ (f.omega + 2)) (weights_of q b weights)) where
     abbrev ws : List ℤ
     ws = weights_of q b weights
 
@@ -256,7 +279,7 @@ module _ {q : ℕ} {f : WaveForm} {p : Params} {s : ℕ → Settings} {d : Image
 -- ---- one step more, in all lanes
 
 pub step_more : {q : ℕ} {f : WaveForm} {p : Params} {s : ℕ → Settings} {d : Image} {first y origin last n k : ℕ}
-    {above lower numbers own weights numbers' own' weights' : List (List ℤ)} → f.previous ≤ 7 → AreLanes q f p s d first y origin last above lower
+    {above : List (List ℤ)} {lower : Lower} {numbers own weights numbers' own' weights' : List (List ℤ)} → f.previous ≤ 15 → AreLanes q f p s d first y origin last above lower
     → (8 ≤ k) × (k < last) → (n ≤ 8) × (n + 7 ≤ origin + k) → IsStepped q f k above lower numbers own weights numbers' own' weights' → length weights ≡ 9
     → ((b : ℕ) → b < 8 → AllWithin (2 ^ (f.omega + 2)) (weights_of q b weights))
     → AreInStep q p s d first y origin last n k numbers own weights → AreInStep q p s d first y origin last n (k + 1) numbers' own' weights'

@@ -5,22 +5,31 @@ use Rattle.std.proofs.lemmas.Int.{ints}
 use Rattle.std.proofs.Math.Pow.{pow-add}
 use Rattle.std.proofs.lemmas.Bool.Decides.{nat_tests}
 use Rattle.lanes.specs.Lanes.{place}
-use Rattle.wave_inversion.specs.Wave.{AreRowsBelow, sum_by, lagged_in, component_in}
+use Rattle.wave_inversion.specs.Wave.{Lower, AreRowsBelow, AreLowerBelow, sum_by, diagonal_in, lagged_in, component_in}
 
 module _ (lower own : List (List ℤ)) (k lag b : ℕ) where
-  pub lagged_low : b < lag → place lower (k - lag) (8 + b - lag) ≡ lagged_in lower own k lag b
-  unfolding lagged_in
-  lagged_low h = grind (arith, nat_tests, h)
+  pub diagonal_low : b < lag → place lower (k - lag) (8 + b - lag) ≡ diagonal_in lower own k lag b
+  unfolding diagonal_in
+  diagonal_low h = grind (arith, nat_tests, h)
 
-  pub lagged_high : lag ≤ b → place own (k - lag) (b - lag) ≡ lagged_in lower own k lag b
+  pub diagonal_high : lag ≤ b → place own (k - lag) (b - lag) ≡ diagonal_in lower own k lag b
+  unfolding diagonal_in
+  diagonal_high h = grind (arith, nat_tests, h)
+
+module _ (lower : Lower) (own : List (List ℤ)) (k lag b : ℕ) where
+  pub lagged_near : lag < 8 → diagonal_in lower.near own k lag b ≡ lagged_in lower own k lag b
   unfolding lagged_in
-  lagged_high h = grind (arith, nat_tests, h)
+  lagged_near h = grind (arith, nat_tests, h)
+
+  pub lagged_far : 8 ≤ lag → diagonal_in lower.far lower.beside k (lag - 8) b ≡ lagged_in lower own k lag b
+  unfolding lagged_in
+  lagged_far h = grind (arith, nat_tests, h)
 
 -- the index of the first component that isn't a directional one
 abbrev pub first_of : Bool → ℕ
 first_of reduced = if reduced then 0 else 3
 
-module _ (reduced : Bool) (previous : ℕ) (directions lower own : List (List ℤ)) (k index b : ℕ) where
+module _ (reduced : Bool) (previous : ℕ) (directions : List (List ℤ)) (lower : Lower) (own : List (List ℤ)) (k index b : ℕ) where
   pub component_direction : index < first_of reduced → place directions index b ≡ component_in reduced previous directions lower own k index b
   unfolding component_in
   component_direction h = grind (arith, nat_tests, h)
@@ -35,8 +44,8 @@ module _ (reduced : Bool) (previous : ℕ) (directions lower own : List (List �
   component_none h l = grind (arith, nat_tests, h, l)
 
   -- components are as small as what they are taken of
-  pub component_below : (limit : ℕ) → 0 < limit → (7 ≤ k) × (k < 64) → previous ≤ 7 → b < 8
-      → ((j : ℕ) → j < 3 → unsigned_abs (place directions j b) < limit) → AreRowsBelow limit lower → AreRowsBelow limit own
+  pub component_below : (limit : ℕ) → 0 < limit → (7 ≤ k) × (k < 64) → previous ≤ 15 → b < 8
+      → ((j : ℕ) → j < 3 → unsigned_abs (place directions j b) < limit) → AreLowerBelow previous limit lower → AreRowsBelow limit own
       → unsigned_abs (component_in reduced previous directions lower own k index b) < limit
   component_below limit some step few within first low high = elim (cases_lt index (first_of reduced)) [
     | inl direction ↦
@@ -44,7 +53,7 @@ module _ (reduced : Bool) (previous : ℕ) (directions lower own : List (List �
         (first index (let most : first_of reduced ≤ 3 = first_most reduced in omega (arith, direction, most)))
     | inr after ↦ elim (cases_lt (index - first_of reduced) previous) [
       | inr none ↦ subst (λ v. unsigned_abs v < limit) (component_none after none) some
-      | inl lag ↦ subst (λ v. unsigned_abs v < limit) (component_lagged after lag) (lagged (index - first_of reduced + 1) (omega (arith, lag, few)))
+      | inl lag ↦ subst (λ v. unsigned_abs v < limit) (component_lagged after lag) (lagged (index - first_of reduced + 1) (omega (arith, lag)) (omega (arith, lag, few)))
     ]
   ]
     where
@@ -52,10 +61,18 @@ module _ (reduced : Bool) (previous : ℕ) (directions lower own : List (List �
       first_most true = omega arith
       first_most false = omega arith
 
-      lagged : (lag : ℕ) → lag ≤ 7 → unsigned_abs (lagged_in lower own k lag b) < limit
-      lagged lag h = elim (cases_lt b lag) [
-        | inl l ↦ subst (λ v. unsigned_abs v < limit) (lagged_low lower own k lag b l) (low _ _ (omega (arith, step.1)) (omega (arith, l)))
-        | inr l ↦ subst (λ v. unsigned_abs v < limit) (lagged_high lower own k lag b l) (high _ _ (omega (arith, step.1)) (omega (arith, within)))
+      diagonal : (first second : List (List ℤ)) (lag : ℕ) → lag ≤ 7 → AreRowsBelow limit first → AreRowsBelow limit second
+          → unsigned_abs (diagonal_in first second k lag b) < limit
+      diagonal first second lag h low high = elim (cases_lt b lag) [
+        | inl l ↦ subst (λ v. unsigned_abs v < limit) (diagonal_low first second k lag b l) (low _ _ (omega (arith, step.1)) (omega (arith, l)))
+        | inr l ↦ subst (λ v. unsigned_abs v < limit) (diagonal_high first second k lag b l) (high _ _ (omega (arith, step.1)) (omega (arith, within)))
+      ]
+
+      lagged : (lag : ℕ) → lag ≤ previous → lag ≤ 15 → unsigned_abs (lagged_in lower own k lag b) < limit
+      lagged lag used h = elim (cases_lt lag 8) [
+        | inl l ↦ subst (λ v. unsigned_abs v < limit) (lagged_near lower own k lag b l) (diagonal lower.near own lag (omega (arith, l)) low.near high)
+        | inr l ↦ subst (λ v. unsigned_abs v < limit) (lagged_far lower own k lag b l)
+            (diagonal lower.far lower.beside (lag - 8) (omega (arith, h)) (low.far (omega (arith, l, used))) (low.beside (omega (arith, l, used))))
       ]
 
 -- a local difference of offsets is below four times their number

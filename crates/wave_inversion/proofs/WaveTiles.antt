@@ -22,15 +22,16 @@ use Rattle.predict_core.specs.Following.{PredictorState}
 use Rattle.predict_core.specs.BandLanes.{HasWeights}
 use Rattle.wave_inversion.specs.Inversion.{IsInverting, IsBandInverted, band_at}
 use Rattle.predict_core.specs.Offsets.{number_at}
-use Rattle.wave_inversion.specs.Wave.{sum_by}
+use Rattle.wave_inversion.specs.Wave.{Lower, sum_by}
 use Rattle.wave_inversion.specs.WaveForms.{WaveForm}
-use Rattle.wave_inversion.specs.WaveLanes.{AreLanes, AreInStep, AreToBegin, column_at, column_within, first_column}
+use Rattle.wave_inversion.specs.WaveLanes.{AreLanes, AreInStep, AreToBegin, column_at, column_within, first_column, lower_central}
+use Rattle.wave_inversion.specs.WaveRows.{AreCentralsOf}
 use Rattle.wave_inversion.proofs.WaveBegun.{IsBegun}
 use Rattle.wave_inversion.proofs.WaveForms.{constants_at}
 use Rattle.wave_inversion.proofs.WaveOffsets.{central_told}
 
 module _ {q : ℕ} {f : WaveForm} {c : Image} {bands : List PredictorState} {first y origin last : ℕ} {base : Settings}
-    {above numbers lower own weights : List (List ℤ)}
+    {above numbers : List (List ℤ)} {lower : Lower} {own weights : List (List ℤ)}
     (k : IsBegun q f c bands first y origin last base above numbers lower own weights) {p : Params} {d : Image}
     (inv : IsInverting p c d bands) where
   abbrev s : ℕ → Settings
@@ -98,21 +99,18 @@ module _ {q : ℕ} {f : WaveForm} {c : Image} {bands : List PredictorState} {fir
       number_same (first + b) y x ((band b exists).done y x there (let at = k.stand b fits exists in omega (arith, at, low)))
 
   -- the offsets of these bands, by their rows
-  none : origin + 0 ≡ origin
-  none = omega arith
-
   own_number : (i b : ℕ) → i < 64 → b < 8 → first + b < length bands → 7 + b ≤ origin + i → column_at origin i b < c.shape.columns
       → place numbers i b ≡ pos (number_at c (first + b) y (column_at origin i b))
   own_number i b small fits exists low bound =
       let same : first + b - 0 ≡ first + b = omega arith in
-      rw (none, same) at (k.filled.numbers_is.numbers i b small fits (omega arith) (omega arith) (omega (arith, exists, bands_are)) (omega (arith, low)) (rw none (omega (arith, bound))))
+      rw same at (k.filled.numbers_is.numbers i b small fits (omega arith) (omega arith) (omega (arith, exists, bands_are)) (omega (arith, low)) (omega (arith, bound)))
       ∙ ap (λ (n : ℕ). pos (number_at c (first + b) y n)) (omega (arith, bound))
 
   above_number : (i b : ℕ) → i < 64 → b < 8 → first + b < length bands → 7 + b ≤ origin + i → column_at origin i b ≤ c.shape.columns
       → place above i b ≡ pos (number_at d (first + b) (y - 1) (column_within c.shape.columns (column_at origin i b)))
   above_number i b small fits exists low bound =
       let same : first + b - 0 ≡ first + b = omega arith in
-      rw (none, same) at (k.filled.above_is.numbers i b small fits (omega arith) (omega arith) (omega (arith, exists, bands_are)) (omega (arith, low)) (rw none bound))
+      rw same at (k.filled.above_is.numbers i b small fits (omega arith) (omega arith) (omega (arith, exists, bands_are)) (omega (arith, low)) bound)
       ∙ ap (λ (n : ℕ). pos n) (done_above (first + b) (column_within c.shape.columns (column_at origin i b)) (omega (arith, fits)) exists (omega (arith, k.inside)))
 
   place_of : (z x : ℕ) → z < length bands → x < c.shape.columns → IsPlace d.shape z y x
@@ -137,18 +135,16 @@ module _ {q : ℕ} {f : WaveForm} {c : Image} {bands : List PredictorState} {fir
       ∙ rw (here, west, north_west, north, north_east, before, after, at, at_west, columns, k.form.column, ← k.made)
       (sym (central_told base.predictor d inv.cube.cube (first + b) y x (place_of (first + b) x exists right) k.row.0 left))
 
-  -- and those of the bands below
-  module _ (i b : ℕ) (low : 1 ≤ i) (high : i < 63) (fits : b < 8) where
+  -- and those of bands below, by rows of them
+  module _ {below least start : ℕ} {rows : List (List ℤ)} (of : AreCentralsOf f.column c first below least y start rows) (further : 8 ≤ below) (i b : ℕ)
+      (low : 1 ≤ i) (high : i < 63) (fits : b < 8) (used : least ≤ b) where
     abbrev x : ℕ
-    x = column_at (origin + 8) i b
+    x = column_at start i b
 
-    column_is : column_at origin (i + 8) b ≡ x
-    column_is = omega arith
-
-    lower_none : 8 ≤ f.previous + b → first + b < 8 → place lower i b ≡ pos 0
-    lower_none used out =
-        let zero = λ (j : ℕ) (h : j < 64). k.filled.lower_numbers_is.none j b h fits (omega (arith, used)) out in let zero_above = λ (j : ℕ) (h : j < 64). k.filled.lower_above_is.none j b h fits (omega (arith, used)) out in
-        k.filled.lower_is i b low high fits
+    lower_none : first + b < below → place rows i b ≡ pos 0
+    lower_none out =
+        let zero = λ (j : ℕ) (h : j < 64). of.numbers_is.none j b h fits used out in let zero_above = λ (j : ℕ) (h : j < 64). of.above_is.none j b h fits used out in
+        of.rows_are i b low high fits
         ∙ rw (
           zero i (omega (arith, high)),
           zero (i - 1) (omega (arith, high)),
@@ -161,15 +157,15 @@ module _ {q : ℕ} {f : WaveForm} {c : Image} {bands : List PredictorState} {fir
         nothing true = refl
         nothing false = refl
 
-    lower_some : 8 ≤ f.previous + b → 8 ≤ first + b → 0 < x → x < c.shape.columns → place lower i b ≡ central_difference base.predictor d (first + b - 8) y x
-    lower_some used some left right =
-        let z : ℕ = first + b - 8 in
-        let number = λ (j : ℕ) (h : j < 64) (m : 7 + b ≤ origin + 8 + j) (l : column_at (origin + 8) j b ≤ c.shape.columns). k.filled.lower_numbers_is.numbers j b h fits (omega (arith, used)) some (omega (arith, fits, k.some, bands_are)) m l
-        ∙ ap (λ (n : ℕ). pos n) (done_below z (column_within c.shape.columns (column_at (origin + 8) j b)) (omega (arith, some, fits)) (omega (arith, k.inside))) in
-        let number_above = λ (j : ℕ) (h : j < 64) (m : 7 + b ≤ origin + 8 + j) (l : column_at (origin + 8) j b ≤ c.shape.columns). k.filled.lower_above_is.numbers j b h fits (omega (arith, used)) some (omega (arith, fits, k.some, bands_are)) m l
-        ∙ ap (λ (n : ℕ). pos n) (done_above z (column_within c.shape.columns (column_at (origin + 8) j b)) (omega (arith, some, fits)) (omega (arith, some, fits, k.some)) (omega (arith, k.inside))) in
-        let before : column_at (origin + 8) (i - 1) b ≡ x - 1 = omega (arith, low) in
-        let after : column_at (origin + 8) (i + 1) b ≡ x + 1 = omega (arith, left) in
+    lower_some : below ≤ first + b → 0 < x → x < c.shape.columns → place rows i b ≡ central_difference base.predictor d (first + b - below) y x
+    lower_some some left right =
+        let z : ℕ = first + b - below in
+        let number = λ (j : ℕ) (h : j < 64) (m : 7 + b ≤ start + j) (l : column_at start j b ≤ c.shape.columns). of.numbers_is.numbers j b h fits used some (omega (arith, fits, further, k.some, bands_are)) m l
+        ∙ ap (λ (n : ℕ). pos n) (done_below z (column_within c.shape.columns (column_at start j b)) (omega (arith, some, further, fits)) (omega (arith, k.inside))) in
+        let number_above = λ (j : ℕ) (h : j < 64) (m : 7 + b ≤ start + j) (l : column_at start j b ≤ c.shape.columns). of.above_is.numbers j b h fits used some (omega (arith, fits, further, k.some, bands_are)) m l
+        ∙ ap (λ (n : ℕ). pos n) (done_above z (column_within c.shape.columns (column_at start j b)) (omega (arith, some, further, fits)) (omega (arith, some, further, fits, k.some)) (omega (arith, k.inside))) in
+        let before : column_at start (i - 1) b ≡ x - 1 = omega (arith, low) in
+        let after : column_at start (i + 1) b ≡ x + 1 = omega (arith, left) in
         let here = number i (omega (arith, high)) (omega (arith, left)) (omega (arith, right)) in
         let west = number (i - 1) (omega (arith, high)) (omega (arith, left, low)) (omega (arith, right, before)) in
         let north_west = number_above (i - 1) (omega (arith, high)) (omega (arith, left, low)) (omega (arith, right, before)) in
@@ -177,31 +173,27 @@ module _ {q : ℕ} {f : WaveForm} {c : Image} {bands : List PredictorState} {fir
         let north_east = number_above (i + 1) (omega (arith, high)) (omega (arith, left)) (omega (arith, right, after)) in
         let at : column_within c.shape.columns x ≡ x = omega (arith, right) in
         let at_west : column_within c.shape.columns (x - 1) ≡ x - 1 = omega (arith, right) in
-        k.filled.lower_is i b low high fits
+        of.rows_are i b low high fits
         ∙ rw (here, west, north_west, north, north_east, before, after, at, at_west, columns, k.form.column, ← k.made)
-        (sym (central_told base.predictor d inv.cube.cube z y x (place_of z x (omega (arith, some, fits, k.some)) right) k.row.0 left))
+        (sym (central_told base.predictor d inv.cube.cube z y x (place_of z x (omega (arith, some, further, fits, k.some)) right) k.row.0 left))
+
+    lower_is : 0 < x → x < d.shape.columns → place rows i b ≡ lower_central base.predictor d below (first + b) y x
+    lower_is left right = elim (cases_lt (first + b) below) [
+      | inl out ↦ lower_none out ∙ sym (test_no below (first + b) _ _ out)
+      | inr some ↦ lower_some some left (omega (arith, right, columns)) ∙ sym (test_yes below (first + b) _ _ some)
+    ]
+      where
+        test_no : (m n : ℕ) (a b : ℤ) → n < m → (if nat_le m n then a else b) ≡ b
+        test_no m n a b h = grind (arith, nat_tests, h)
+
+        test_yes : (m n : ℕ) (a b : ℤ) → m ≤ n → (if nat_le m n then a else b) ≡ a
+        test_yes m n a b h = grind (arith, nat_tests, h)
 
   pub count_is : (b : ℕ) → b < 8 → first + b < length bands → component_count base.predictor (first + b) ≡ length (band_at bands (first + b)).weights
   count_is b fits exists = sym ((has_weights b fits exists).long ∙ ap₂ component_count (same_made (first + b) exists) (band b exists).band)
 
   kind_is : d.kind ≡ base.range.kind
   kind_is = inv.cube.kind ∙ sym head.follows.made.kind ∙ sym k.of-kind
-
-  below_is : (i b : ℕ) → 1 ≤ i → i < last → b < 8 → 8 ≤ f.previous + b → 0 < column_at origin (i + 8) b → column_at origin (i + 8) b < d.shape.columns
-      → place lower i b ≡ (if nat_le 8 (first + b) then central_difference base.predictor d (first + b - 8) y (column_at origin (i + 8) b) else pos 0)
-  below_is i b low high fits used left right = elim (cases_lt (first + b) 8) [
-    | inl out ↦ lower_none i b low (omega (arith, high, k.steps)) fits used out ∙ sym (test_no (first + b) _ _ out)
-    | inr some ↦ lower_some i b low (omega (arith, high, k.steps)) fits used some (rw (← column_is i b low (omega (arith, high, k.steps)) fits) left)
-        (omega (arith, right, columns, column_is i b low (omega (arith, high, k.steps)) fits))
-        ∙ ap (central_difference base.predictor d (first + b - 8) y) (sym (column_is i b low (omega (arith, high, k.steps)) fits))
-        ∙ sym (test_yes (first + b) _ _ some)
-  ]
-    where
-      test_no : (n : ℕ) (a b : ℤ) → n < 8 → (if nat_le 8 n then a else b) ≡ b
-      test_no n a b h = grind (arith, nat_tests, h)
-
-      test_yes : (n : ℕ) (a b : ℤ) → 8 ≤ n → (if nat_le 8 n then a else b) ≡ a
-      test_yes n a b h = grind (arith, nat_tests, h)
 
   exponent_is : (x : ℕ) → x < c.shape.columns → f.exponent ≡ step_exponent base.predictor d.shape.columns d.kind.bits (y * d.shape.columns + x)
   exponent_is x fits = rw (← k.made, columns, ap (λ (n : SampleKind). n.bits) inv.alike.kind) at (k.form.exponent x fits)
@@ -231,7 +223,9 @@ module _ {q : ℕ} {f : WaveForm} {c : Image} {bands : List PredictorState} {fir
       exponent_is = exponent_is (column_at origin j b) (omega (arith, bound, columns));
     };
     north = λ i b high fits exists left bound. rw columns at (above_number i b (omega (arith, high, k.steps)) fits (omega (arith, exists, bands_here)) left (omega (arith, bound, columns)));
-    below = below_is;
+    near = λ i b low high fits used left right. lower_is k.filled.near_is (omega arith) i b low (omega (arith, high, k.steps)) fits (omega (arith, used)) left right;
+    beside = λ i b low high fits deep left right. lower_is (k.filled.beside_is deep) (omega arith) i b low (omega (arith, high, k.steps)) fits (omega (arith, deep)) left right;
+    far = λ i b low high fits deep used left right. lower_is (k.filled.far_is deep) (omega arith) i b low (omega (arith, high, k.steps)) fits (omega (arith, used)) left right;
   }
 
   coded_here : (b x : ℕ) → b < 8 → first + b < length bands → first_column origin b ≤ x → x < c.shape.columns → number_at c (first + b) y x ≡ mapped_residual p d (first + b) (y * d.shape.columns + x)

@@ -9,6 +9,7 @@ use Rattle.band_lanes.specs.Rows.{weights_of}
 use Rattle.sample_prediction.specs.Chain.{AreWeightsAt}
 use Rattle.sample_prediction.specs.Differences.{central_difference}
 use Rattle.sample_prediction.specs.Residual.{mapped_residual}
+use Rattle.sample_prediction.specs.declared.predictor.Predictor.{Predictor}
 use Rattle.predict_core.specs.declared.settings.Settings.{Settings}
 use Rattle.predict_core.specs.Following.{PredictorState}
 use Rattle.predict_core.specs.BandLanes.{HasWeights}
@@ -16,6 +17,7 @@ use Rattle.wave_inversion.specs.Inversion.{band_at}
 use Rattle.predict_core.specs.Offsets.{number_at}
 use Rattle.predict_core.specs.Largest.{NeverWraps}
 use Rattle.predict_core.specs.RunChains.{AreStepsThere}
+use Rattle.wave_inversion.specs.Wave.{Lower}
 use Rattle.wave_inversion.specs.WaveForms.{WaveForm}
 
 -- the column of lane b in step k
@@ -34,9 +36,12 @@ first_column origin b = origin - b + 1
 abbrev pub first_step : ℕ → ℕ → ℕ
 first_step origin b = 8 + (b - origin)
 
--- the constants of the bands, and what doesn't change from step 8 to step `last`: the row above, the central differences of the previous bands below (0
--- where there is no band), and the form
-pub record AreLanes (q : ℕ) (f : WaveForm) (p : Params) (s : ℕ → Settings) (d : Image) (first y origin last : ℕ) (above lower : List (List ℤ)) : Type 0 where
+-- the central difference of the band so many below band z, or 0 where there is no such band
+abbrev pub lower_central : Predictor → Image → ℕ → ℕ → ℕ → ℕ → ℤ
+lower_central m d below z y x = if nat_le below z then central_difference m d (z - below) y x else pos 0
+
+-- the constants of the bands, and what doesn't change from step 8 to step `last`: the row above, the central differences of the previous bands below, and the form
+pub record AreLanes (q : ℕ) (f : WaveForm) (p : Params) (s : ℕ → Settings) (d : Image) (first y origin last : ℕ) (above : List (List ℤ)) (lower : Lower) : Type 0 where
   pub cube : IsCube d
   pub row : (0 < y) × (y < d.shape.rows)
   pub most : last ≤ 63
@@ -54,8 +59,12 @@ pub record AreLanes (q : ℕ) (f : WaveForm) (p : Params) (s : ℕ → Settings)
   pub steps : (b k : ℕ) → b < 8 → column_at origin k b < d.shape.columns → AreStepsThere (s b) d f.omega f.bits f.exponent y (column_at origin k b)
   pub north : (i b : ℕ) → i ≤ last → b < 8 → first + b < d.shape.bands → 7 + b ≤ origin + i → column_at origin i b ≤ d.shape.columns
       → place above i b ≡ pos (number_at d (first + b) (y - 1) (column_within d.shape.columns (column_at origin i b)))
-  pub below : (i b : ℕ) → 1 ≤ i → i < last → b < 8 → 8 ≤ f.previous + b → 0 < column_at origin (i + 8) b → column_at origin (i + 8) b < d.shape.columns
-      → place lower i b ≡ (if nat_le 8 (first + b) then central_difference (s 0).predictor d (first + b - 8) y (column_at origin (i + 8) b) else pos 0)
+  pub near : (i b : ℕ) → 1 ≤ i → i < last → b < 8 → 8 ≤ f.previous + b → 0 < column_at (origin + 8) i b → column_at (origin + 8) i b < d.shape.columns
+      → place lower.near i b ≡ lower_central (s 0).predictor d 8 (first + b) y (column_at (origin + 8) i b)
+  pub beside : (i b : ℕ) → 1 ≤ i → i < last → b < 8 → 7 < f.previous → 0 < column_at origin i b → column_at origin i b < d.shape.columns
+      → place lower.beside i b ≡ lower_central (s 0).predictor d 8 (first + b) y (column_at origin i b)
+  pub far : (i b : ℕ) → 1 ≤ i → i < last → b < 8 → 7 < f.previous → 16 ≤ f.previous + b → 0 < column_at (origin + 8) i b → column_at (origin + 8) i b < d.shape.columns
+      → place lower.far i b ≡ lower_central (s 0).predictor d 16 (first + b) y (column_at (origin + 8) i b)
 
 -- what has been found before step k in the first n lanes, which have begun: the offsets of the bands up to there, from which their central differences come, and
 -- the weights, each as far as the end of the row; the residuals from there on are as they were, in all lanes

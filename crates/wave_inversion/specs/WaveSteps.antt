@@ -6,7 +6,7 @@ use Rattle.sample_prediction.specs.Arithmetic.{floor_div, clip}
 use Rattle.sample_prediction.specs.Mapping.{unmapped_between}
 use Rattle.sample_prediction.specs.Prediction.{inner_product}
 use Rattle.sample_prediction.specs.Weights.{updated_weights}
-use Rattle.wave_inversion.specs.Wave.{sum_at, component_in}
+use Rattle.wave_inversion.specs.Wave.{Lower, sum_at, component_in}
 use Rattle.wave_inversion.specs.WaveForms.{WaveForm}
 use Rattle.predict_core.specs.BandLanes.{IsPart}
 
@@ -16,7 +16,7 @@ offset_by greatest part sum residual =
     unmapped_between (pos 0) greatest (clip (floor_div (part +ℤ sum) 2 +ℤ pos 1) (pos 0) (pos 2 *ℤ greatest +ℤ pos 1)) (unsigned_abs residual)
 
 -- from the rows and weights before step k to those after it, by components in rows as the weights are, of which the first q are used
-pub record IsStepped (q : ℕ) (f : WaveForm) (k : ℕ) (above lower numbers own weights numbers' own' weights' : List (List ℤ)) : Type 0 where
+pub record IsStepped (q : ℕ) (f : WaveForm) (k : ℕ) (above : List (List ℤ)) (lower : Lower) (numbers own weights numbers' own' weights' : List (List ℤ)) : Type 0 where
   pub directions : List (List ℤ)
   pub components : List (List ℤ)
   pub part : ℕ → ℤ

@@ -19,8 +19,8 @@ pub(crate) fn collect<const Q: usize>(lanes: usize, room: &mut WaveRoom)
     requires numbers_in { (i b : ℕ) → i < 64 → b < 8 → pos 0 ≤ℤ place room.old.numbers i b }
     ensures { AreCollected Q lanes room.old.numbers (kept_rows room.old.ends) room.old.weights room.new.found }
 {
-    turn_back(&room.numbers, &mut room.lines);
-    copy_lines(&room.lines, &mut room.found.offsets);
+    turn_back(&room.numbers, &mut room.lines.numbers);
+    copy_lines(&room.lines.numbers, &mut room.found.offsets);
     take_ends::<Q>(lanes, &room.ends, &room.weights, &mut room.found.weights);
 }
 

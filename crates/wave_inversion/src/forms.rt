@@ -13,6 +13,7 @@ use crate::form::Form;
 use crate::long::form::LongForm;
 use crate::width::Width;
 use band_lanes::four::step::LongStep;
+use band_lanes::pairs::MOST_PAIRS;
 use band_lanes::step::Step;
 use predict_core::band::Band;
 use predict_core::exact_lanes::{is_narrow, never_wraps, pairs_of};
@@ -26,8 +27,8 @@ const LEAST_COLUMNS: u32 = 32;
 /// The least bands that are worth the work of going as a wavefront in lanes of 32 bits.
 const LEAST_LONG: usize = 7;
 
-/// The most previous bands that a wavefront takes.
-const MOST_PREVIOUS: u32 = 7;
+/// The most previous bands that are among the bands of a wavefront and the eight below them at each step.
+const NEAR_PREVIOUS: u32 = 7;
 
 /// Returns the form in which row `y` of a band, and of the others of `many` bands with the same parameters, can be inverted as a wavefront:
 /// in lanes of 16 bits where these are exact, and else in lanes of 32 if the bands are enough for these.
@@ -58,7 +59,7 @@ fn form_of(band: &Band, y: u32) -> Option<Form>
     let predictor = &settings.predictor;
     let columns = settings.columns;
     let start = y as u64 * columns as u64;
-    if predictor.previous > MOST_PREVIOUS || columns < LEAST_COLUMNS || !is_narrow(settings) {
+    if columns < LEAST_COLUMNS || !is_narrow(settings) {
         return None;
     }
     if places_alike(predictor, columns, start, columns as usize) < columns as usize {
@@ -77,7 +78,7 @@ fn long_form_of(band: &Band, y: u32) -> Option<LongForm>
     let predictor = &settings.predictor;
     let columns = settings.columns;
     let start = y as u64 * columns as u64;
-    if predictor.previous > MOST_PREVIOUS || columns < LEAST_COLUMNS || !never_wraps(settings) {
+    if columns < LEAST_COLUMNS || !never_wraps(settings) {
         return None;
     }
     let alike = places_alike(predictor, columns, start, columns as usize);
@@ -90,7 +91,6 @@ fn long_form_of(band: &Band, y: u32) -> Option<LongForm>
 /// Returns the form in lanes of 16 bits for the exponent at place `t`.
 fn narrow_form_at(settings: &Settings, t: u64) -> Form
     requires narrow { IsNarrow settings.now.predictor settings.now.range.bits }
-    requires previous { settings.now.predictor.previous ≤ 7 }
     requires t_in { t < 2 ^ 32 }
     ensures reduced { result.reduced ≡ settings.now.predictor.reduced }
     ensures column { result.column ≡ settings.now.predictor.column }
@@ -108,7 +108,7 @@ fn narrow_form_at(settings: &Settings, t: u64) -> Form
         reduced: predictor.reduced,
         column: predictor.column,
         previous: predictor.previous as usize,
-        pairs: pairs_of(settings),
+        pairs: pairs_for(settings),
         greatest: greatest_of(&settings.range),
         step: Step::new(predictor.omega, bits, exponent),
     }
@@ -116,7 +116,6 @@ fn narrow_form_at(settings: &Settings, t: u64) -> Form
 
 /// Returns the form in lanes of 32 bits for the exponent at place `t`.
 fn long_form_at(settings: &Settings, t: u64) -> LongForm
-    requires previous { settings.now.predictor.previous ≤ 7 }
     requires t_in { t < 2 ^ 32 }
     ensures reduced { result.reduced ≡ settings.now.predictor.reduced }
     ensures column { result.column ≡ settings.now.predictor.column }
@@ -134,9 +133,22 @@ fn long_form_at(settings: &Settings, t: u64) -> LongForm
         reduced: predictor.reduced,
         column: predictor.column,
         previous: predictor.previous as usize,
-        pairs: pairs_of(settings),
+        pairs: pairs_for(settings),
         greatest: long_greatest_of(&settings.range),
         step: LongStep::new(predictor.omega, bits, exponent),
+    }
+}
+
+/// Returns how many pairs a wavefront takes for the components of any band: all, if it asks for bands further below than most do.
+fn pairs_for(settings: &Settings) -> usize
+    ensures few { result ≤ 9 }
+    ensures enough { (z : ℕ) → component_count settings.now.predictor z ≤ 2 * result }
+    ensures deep { 7 < settings.now.predictor.previous → 5 < result }
+{
+    if settings.predictor.previous > NEAR_PREVIOUS {
+        MOST_PAIRS
+    } else {
+        pairs_of(settings)
     }
 }
 

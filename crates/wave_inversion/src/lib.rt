@@ -15,6 +15,7 @@ mod forms;
 mod found;
 pub mod inversion;
 mod long;
+mod lower;
 mod place;
 mod room;
 mod rooms;

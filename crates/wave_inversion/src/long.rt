@@ -6,6 +6,7 @@ pub(crate) mod centrals;
 pub(crate) mod collect;
 pub(crate) mod components;
 pub(crate) mod form;
+pub(crate) mod lower;
 pub(crate) mod place;
 pub(crate) mod room;
 pub(crate) mod rows;

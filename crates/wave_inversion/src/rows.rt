@@ -25,7 +25,7 @@ pub(crate) fn fill_rows(
     requires bands { first < cube.now.shape.bands }
     requires row { y < cube.now.shape.rows }
     requires some { 0 < cube.now.shape.columns }
-    requires origin { origin ≤ 65536 }
+    requires origin { origin ≤ 65544 }
     requires bits { cube.now.kind.bits ≤ 12 }
     ensures numbers { AreRowsOf cube.now first 0 0 y origin rows.new }
     ensures within { AreOffsetRows (pos (2 ^ cube.now.kind.bits) -ℤ pos 1) rows.new }
@@ -44,12 +44,12 @@ pub(crate) fn fill_narrow_lines(
     origin: usize,
     lines: &mut [[i16; 64]; 8],
 )
-    requires below { below ≤ 8 }
+    requires below { below ≤ 16 }
     requires least { least ≤ 8 }
     requires bands { first < cube.now.shape.bands }
     requires row { y < cube.now.shape.rows }
     requires some { 0 < cube.now.shape.columns }
-    requires origin { origin ≤ 65536 }
+    requires origin { origin ≤ 65544 }
     requires bits { cube.now.kind.bits ≤ 12 }
     ensures numbers { AreLinesOf cube.now first below least y origin (λ (b i : ℕ). place lines.new b i) }
     ensures within { AreOffsetLines least (pos (2 ^ cube.now.kind.bits) -ℤ pos 1) lines.new }
@@ -78,8 +78,8 @@ fn copied(line: &[i16; 64]) -> [i16; 64]
 }
 
 /// Writes lines of 64 numbers, from number `least` to the eighth: line b has the offsets of the band that is `below` bands below band
-/// `first + b`, at place i that at column `origin + below + i - 7 - b` of row `y`, and after the last column that of the last one once
-/// more, without a sign. It has 0 where there is no such band or column.
+/// `first + b`, at place i that at column `origin + i - 7 - b` of row `y`, and after the last column that of the last one once more,
+/// without a sign. It has 0 where there is no such band or column.
 // Inlined it would be there four times for each number of pairs.
 #[inline(never)]
 pub(crate) fn fill_lines(
@@ -91,12 +91,12 @@ pub(crate) fn fill_lines(
     origin: usize,
     lines: &mut [[i16; 64]; 8],
 )
-    requires below { below ≤ 8 }
+    requires below { below ≤ 16 }
     requires least { least ≤ 8 }
     requires bands { first < cube.now.shape.bands }
     requires row { y < cube.now.shape.rows }
     requires some { 0 < cube.now.shape.columns }
-    requires origin { origin ≤ 65536 }
+    requires origin { origin ≤ 65544 }
     ensures numbers { AreLinesOf cube.now first below least y origin (λ (b i : ℕ). without_sign (place lines.new b i)) }
     ensures within { AreLinesWithin least (pos (2 ^ cube.now.kind.bits) -ℤ pos 1) lines.new }
 {
@@ -117,13 +117,13 @@ fn fill_line(
     lines: &mut [[i16; 64]; 8],
 )
     requires lane { b < 8 }
-    requires below { below ≤ 8 }
+    requires below { below ≤ 16 }
     requires band { z < cube.now.shape.bands + 8 }
     requires row { y < cube.now.shape.rows }
     requires some { 0 < cube.now.shape.columns }
-    requires origin { origin ≤ 65536 }
-    ensures numbers { (i : ℕ) → i < 64 → below ≤ z → z < cube.now.shape.bands + below → 7 + b ≤ origin + below + i → column_at (origin + below) i b ≤ cube.now.shape.columns
-        → without_sign (place lines.new b i) ≡ pos (number_at cube.now (z - below) y (column_within cube.now.shape.columns (column_at (origin + below) i b))) }
+    requires origin { origin ≤ 65544 }
+    ensures numbers { (i : ℕ) → i < 64 → below ≤ z → z < cube.now.shape.bands + below → 7 + b ≤ origin + i → column_at origin i b ≤ cube.now.shape.columns
+        → without_sign (place lines.new b i) ≡ pos (number_at cube.now (z - below) y (column_within cube.now.shape.columns (column_at origin i b))) }
     ensures none { (i : ℕ) → i < 64 → z < below → without_sign (place lines.new b i) ≡ pos 0 }
     ensures within { (i : ℕ) → i < 64 → without_sign (place lines.new b i) ≤ℤ (pos (2 ^ cube.now.kind.bits) -ℤ pos 1) }
     ensures others { (k i : ℕ) → k ≢ b → place lines.new k i ≡ place lines.old k i }
@@ -134,7 +134,7 @@ fn fill_line(
         clear_line(&mut lines[b]);
     } else {
         let row = cube.row((z - below) as u32, y);
-        skew(row, origin + below, 7 + b, &mut lines[b]);
+        skew(row, origin, 7 + b, &mut lines[b]);
     }
 }
 

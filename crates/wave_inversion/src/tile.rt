@@ -5,19 +5,20 @@ ghost use Rattle.cube_core.specs.Image.{Image};
 ghost use Rattle.header_bits.specs.declared.params.Params.{Params as Parameters};
 ghost use Rattle.wave_inversion.specs.Inversion.{IsInverting, AreAhead, AreKeptBeside, band_at};
 ghost use Rattle.predict_core.specs.Precedence.{AreAlike};
+ghost use Rattle.wave_inversion.specs.Wave.{lower_of};
 ghost use Rattle.wave_inversion.specs.WaveForms.{narrow_form};
 ghost use Rattle.wave_inversion.specs.WaveRows.{AreFilled};
 ghost use Rattle.wave_inversion.specs.WaveTiles.{AreFound, IsFormOf, StandAsWave, end_column};
 
 use crate::begin::{end_lanes, invert_steps};
-use crate::centrals::{fill_central_lines, fill_centrals};
+use crate::centrals::fill_centrals;
 use crate::collect::collect;
 use crate::finish::{ended_of, finish_lanes};
 use crate::form::Form;
+use crate::lower::fill_lower;
 use crate::room::WaveRoom;
-use crate::rows::{fill_narrow_lines, fill_rows};
+use crate::rows::fill_rows;
 use cube_core::cube::Cube;
-use lanes::turn::turn;
 use predict_core::band::Band;
 use predict_core::lane_weights::fill_weights;
 use predict_core::settings::Settings;
@@ -116,7 +117,7 @@ fn fill_room<const Q: usize>(
     requires row { (0 < y) × (y < cube.now.shape.rows) }
     requires inside { origin + 2 ≤ cube.now.shape.columns }
     requires form { IsFormOf (narrow_form form) (band_at bands.now first).predictor cube.now y }
-    ensures { result ≡ true → AreFilled Q (narrow_form form) cube.now bands.now first y origin room.new.above room.new.numbers room.new.lower room.new.own room.new.weights }
+    ensures { result ≡ true → AreFilled Q (narrow_form form) cube.now bands.now first y origin room.new.above room.new.numbers (lower_of room.new.lower) room.new.own room.new.weights }
 {
     cube.prove_is_cube();
     let last = bands.len().min(first + 8);
@@ -124,15 +125,23 @@ fn fill_room<const Q: usize>(
         return false;
     }
     let lines = &mut room.lines;
-    fill_rows(cube, first, y, origin, lines, &mut room.numbers);
-    fill_rows(cube, first, y - 1, origin, lines, &mut room.above);
-    // No component is of a band further below than the previous ones.
-    let least = 8 - form.previous;
-    let above = &mut room.lines_above;
-    fill_narrow_lines(cube, first, 8, least, y, origin, lines);
-    fill_narrow_lines(cube, first, 8, least, y - 1, origin, above);
-    fill_central_lines(form, least, lines, above, &mut room.central_lines);
-    turn(&room.central_lines, &mut room.lower);
+    fill_rows(
+        cube,
+        first,
+        y,
+        origin,
+        &mut lines.numbers,
+        &mut room.numbers,
+    );
+    fill_rows(
+        cube,
+        first,
+        y - 1,
+        origin,
+        &mut lines.numbers,
+        &mut room.above,
+    );
+    fill_lower(cube, first, y, origin, form, lines, &mut room.lower);
     fill_centrals(form, 8, &room.numbers, &room.above, &mut room.own);
     true
 }

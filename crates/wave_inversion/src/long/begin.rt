@@ -10,7 +10,7 @@ ghost use Rattle.sample_prediction.specs.Bounds.{AllWithin};
 ghost use Rattle.sample_prediction.specs.Chain.{AreWeightsAt};
 ghost use Rattle.predict_core.specs.declared.settings.Settings.{Settings as Constants};
 ghost use Rattle.wave_inversion.specs.Inversion.{band_at};
-ghost use Rattle.wave_inversion.specs.Wave.{AreOffsetRows, AreRowsBelow, kept_long_rows};
+ghost use Rattle.wave_inversion.specs.Wave.{AreOffsetRows, AreRowsBelow, kept_long_rows, AreLowerBelow, long_lower_of};
 ghost use Rattle.wave_inversion.specs.WaveForms.{long_form};
 ghost use Rattle.wave_inversion.specs.WaveLanes.{AreLanes, AreInStep, AreToBegin, column_at};
 ghost use Rattle.wave_inversion.specs.WaveTiles.{lane_count};
@@ -36,13 +36,14 @@ pub(crate) fn invert_steps<const Q: usize>(
     room: &mut LongWaveRoom,
 )
     requires few { Q ≤ 9 }
+    requires deep { 7 < form.previous → 5 < Q }
     requires some { first < length bands.now }
     requires to { (8 ≤ to) × (to ≤ 63) }
     requires begun { (origin ≡ 0 → 15 ≤ to) × (0 < origin → 7 ≤ origin) }
     requires omega { (b : ℕ) → b < 8 → first + b < length bands.now → form.step.omega ≡ (band_at bands.now (first + b)).predictor.omega }
     requires above_in { AreOffsetRows form.greatest room.old.above }
     requires numbers_in { AreOffsetRows form.greatest room.old.numbers }
-    requires lower_in { AreRowsBelow (2 ^ (form.step.bits + 2)) room.old.lower }
+    requires lower_in { AreLowerBelow form.previous (2 ^ (form.step.bits + 2)) (long_lower_of room.old.lower) }
     requires own_in { AreRowsBelow (2 ^ (form.step.bits + 2)) room.old.own }
     requires weights_in { (b : ℕ) → b < 8 → AllWithin (2 ^ (form.step.omega + 2)) (weights_of Q b room.old.weights) }
     ensures above { room.new.above ≡ room.old.above }
@@ -51,7 +52,7 @@ pub(crate) fn invert_steps<const Q: usize>(
     ensures own_in { AreRowsBelow (2 ^ (form.step.bits + 2)) room.new.own }
     ensures weights_in { (b : ℕ) → b < 8 → AllWithin (2 ^ (form.step.omega + 2)) (weights_of Q b room.new.weights) }
     ensures inverted { (p : Parameters) (s : ℕ → Constants) (d : Image) (y last : ℕ)
-        → AreLanes Q (long_form form) p s d first y origin last room.old.above room.old.lower → to ≤ last
+        → AreLanes Q (long_form form) p s d first y origin last room.old.above (long_lower_of room.old.lower) → to ≤ last
         → (origin ≡ 0 → AreToBegin Q p s d first y bands.now room.old.numbers)
         → AreInStep Q p s d first y origin last (min 8 (origin + 1)) 8 room.old.numbers room.old.own room.old.weights
         → AreInStep Q p s d first y origin last 8 to room.new.numbers room.new.own room.new.weights }
@@ -76,11 +77,12 @@ fn begin_lanes<const Q: usize>(
     room: &mut LongWaveRoom,
 )
     requires few { Q ≤ 9 }
+    requires deep { 7 < form.previous → 5 < Q }
     requires some { first < length bands.now }
     requires omega { (b : ℕ) → b < 8 → first + b < length bands.now → form.step.omega ≡ (band_at bands.now (first + b)).predictor.omega }
     requires above_in { AreOffsetRows form.greatest room.old.above }
     requires numbers_in { AreOffsetRows form.greatest room.old.numbers }
-    requires lower_in { AreRowsBelow (2 ^ (form.step.bits + 2)) room.old.lower }
+    requires lower_in { AreLowerBelow form.previous (2 ^ (form.step.bits + 2)) (long_lower_of room.old.lower) }
     requires own_in { AreRowsBelow (2 ^ (form.step.bits + 2)) room.old.own }
     requires weights_in { (b : ℕ) → b < 8 → AllWithin (2 ^ (form.step.omega + 2)) (weights_of Q b room.old.weights) }
     ensures above { room.new.above ≡ room.old.above }
@@ -89,7 +91,7 @@ fn begin_lanes<const Q: usize>(
     ensures own_in { AreRowsBelow (2 ^ (form.step.bits + 2)) room.new.own }
     ensures weights_in { (b : ℕ) → b < 8 → AllWithin (2 ^ (form.step.omega + 2)) (weights_of Q b room.new.weights) }
     ensures inverted { (p : Parameters) (s : ℕ → Constants) (d : Image) (y last : ℕ)
-        → AreLanes Q (long_form form) p s d first y 0 last room.old.above room.old.lower → 15 ≤ last → AreToBegin Q p s d first y bands.now room.old.numbers
+        → AreLanes Q (long_form form) p s d first y 0 last room.old.above (long_lower_of room.old.lower) → 15 ≤ last → AreToBegin Q p s d first y bands.now room.old.numbers
         → AreInStep Q p s d first y 0 last 1 8 room.old.numbers room.old.own room.old.weights
         → AreInStep Q p s d first y 0 last (lane_count bands.now first) (7 + lane_count bands.now first) room.new.numbers room.new.own room.new.weights }
 {
@@ -117,21 +119,22 @@ pub(crate) fn end_lanes<const Q: usize>(
     room: &mut LongWaveRoom,
 )
     requires few { Q ≤ 9 }
+    requires deep { 7 < form.previous → 5 < Q }
     requires steps { (8 ≤ from) × (from ≤ last) × (last ≤ 63) × (last ≤ from + 8) }
     requires above_in { AreOffsetRows form.greatest room.old.above }
     requires numbers_in { AreOffsetRows form.greatest room.old.numbers }
-    requires lower_in { AreRowsBelow (2 ^ (form.step.bits + 2)) room.old.lower }
+    requires lower_in { AreLowerBelow form.previous (2 ^ (form.step.bits + 2)) (long_lower_of room.old.lower) }
     requires own_in { AreRowsBelow (2 ^ (form.step.bits + 2)) room.old.own }
     requires weights_in { (b : ℕ) → b < 8 → AllWithin (2 ^ (form.step.omega + 2)) (weights_of Q b room.old.weights) }
     ensures numbers_in { AreOffsetRows form.greatest room.new.numbers }
     ensures weights_in { (b : ℕ) → b < 8 → AllWithin (2 ^ (form.step.omega + 2)) (weights_of Q b room.new.weights) }
     ensures ends_in { (b : ℕ) → b < last - from → AllWithin (2 ^ (form.step.omega + 2)) (weights_of Q b (kept_long_rows room.new.ends b)) }
     ensures inverted { (p : Parameters) (s : ℕ → Constants) (d : Image) (first y origin : ℕ)
-        → AreLanes Q (long_form form) p s d first y origin last room.old.above room.old.lower → 15 ≤ origin + from
+        → AreLanes Q (long_form form) p s d first y origin last room.old.above (long_lower_of room.old.lower) → 15 ≤ origin + from
         → AreInStep Q p s d first y origin last 8 from room.old.numbers room.old.own room.old.weights
         → AreInStep Q p s d first y origin last 8 last room.new.numbers room.new.own room.new.weights }
     ensures kept { (p : Parameters) (s : ℕ → Constants) (d : Image) (first y origin : ℕ)
-        → AreLanes Q (long_form form) p s d first y origin last room.old.above room.old.lower → 15 ≤ origin + from
+        → AreLanes Q (long_form form) p s d first y origin last room.old.above (long_lower_of room.old.lower) → 15 ≤ origin + from
         → AreInStep Q p s d first y origin last 8 from room.old.numbers room.old.own room.old.weights
         → (b : ℕ) → b < last - from → first + b < d.shape.bands → column_at origin (from + b) b ≤ d.shape.columns
         → AreWeightsAt p (s b).predictor d (first + b) (y * d.shape.columns + column_at origin (from + b) b) (take (s b).count (weights_of Q b (kept_long_rows room.new.ends b))) }
@@ -171,9 +174,10 @@ fn put_back(start: &[i32; 8], i: usize, b: usize, numbers: &mut [[i32; 8]; 64])
 /// `invert_places` by the form that a step asks for.
 fn invert_by<const Q: usize>(form: LongForm, stretch: Stretch, room: &mut LongWaveRoom)
     requires few { Q ≤ 9 }
+    requires deep { 7 < form.previous → 5 < Q }
     requires above_in { AreOffsetRows form.greatest room.old.above }
     requires numbers_in { AreOffsetRows form.greatest room.old.numbers }
-    requires lower_in { AreRowsBelow (2 ^ (form.step.bits + 2)) room.old.lower }
+    requires lower_in { AreLowerBelow form.previous (2 ^ (form.step.bits + 2)) (long_lower_of room.old.lower) }
     requires own_in { AreRowsBelow (2 ^ (form.step.bits + 2)) room.old.own }
     requires weights_in { (b : ℕ) → b < 8 → AllWithin (2 ^ (form.step.omega + 2)) (weights_of Q b room.old.weights) }
     ensures above { room.new.above ≡ room.old.above }
@@ -183,7 +187,7 @@ fn invert_by<const Q: usize>(form: LongForm, stretch: Stretch, room: &mut LongWa
     ensures own_in { AreRowsBelow (2 ^ (form.step.bits + 2)) room.new.own }
     ensures weights_in { (b : ℕ) → b < 8 → AllWithin (2 ^ (form.step.omega + 2)) (weights_of Q b room.new.weights) }
     ensures inverted { (p : Parameters) (s : ℕ → Constants) (d : Image) (first y origin last n : ℕ)
-        → AreLanes Q (long_form form) p s d first y origin last room.old.above room.old.lower
+        → AreLanes Q (long_form form) p s d first y origin last room.old.above (long_lower_of room.old.lower)
         → stretch.to ≤ last → (n ≤ 8) × (n + 7 ≤ origin + stretch.from)
         → AreInStep Q p s d first y origin last n stretch.from room.old.numbers room.old.own room.old.weights
         → AreInStep Q p s d first y origin last n stretch.to room.new.numbers room.new.own room.new.weights }
@@ -203,9 +207,10 @@ fn invert_in_mode<const Q: usize, const REDUCED: bool>(
 )
     requires mode { form.reduced ≡ REDUCED }
     requires few { Q ≤ 9 }
+    requires deep { 7 < form.previous → 5 < Q }
     requires above_in { AreOffsetRows form.greatest room.old.above }
     requires numbers_in { AreOffsetRows form.greatest room.old.numbers }
-    requires lower_in { AreRowsBelow (2 ^ (form.step.bits + 2)) room.old.lower }
+    requires lower_in { AreLowerBelow form.previous (2 ^ (form.step.bits + 2)) (long_lower_of room.old.lower) }
     requires own_in { AreRowsBelow (2 ^ (form.step.bits + 2)) room.old.own }
     requires weights_in { (b : ℕ) → b < 8 → AllWithin (2 ^ (form.step.omega + 2)) (weights_of Q b room.old.weights) }
     ensures above { room.new.above ≡ room.old.above }
@@ -215,7 +220,7 @@ fn invert_in_mode<const Q: usize, const REDUCED: bool>(
     ensures own_in { AreRowsBelow (2 ^ (form.step.bits + 2)) room.new.own }
     ensures weights_in { (b : ℕ) → b < 8 → AllWithin (2 ^ (form.step.omega + 2)) (weights_of Q b room.new.weights) }
     ensures inverted { (p : Parameters) (s : ℕ → Constants) (d : Image) (first y origin last n : ℕ)
-        → AreLanes Q (long_form form) p s d first y origin last room.old.above room.old.lower
+        → AreLanes Q (long_form form) p s d first y origin last room.old.above (long_lower_of room.old.lower)
         → stretch.to ≤ last → (n ≤ 8) × (n + 7 ≤ origin + stretch.from)
         → AreInStep Q p s d first y origin last n stretch.from room.old.numbers room.old.own room.old.weights
         → AreInStep Q p s d first y origin last n stretch.to room.new.numbers room.new.own room.new.weights }

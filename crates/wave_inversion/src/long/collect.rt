@@ -21,8 +21,8 @@ pub(crate) fn collect<const Q: usize>(lanes: usize, room: &mut LongWaveRoom)
     ensures { AreCollected Q lanes room.old.numbers (kept_long_rows room.old.ends) room.old.weights room.new.found }
 {
     narrow_rows(&room.numbers, &mut room.turned);
-    turn_back(&room.turned, &mut room.lines);
-    copy_lines(&room.lines, &mut room.found.offsets);
+    turn_back(&room.turned, &mut room.lines.numbers);
+    copy_lines(&room.lines.numbers, &mut room.found.offsets);
     take_ends::<Q>(lanes, &room.ends, &room.weights, &mut room.found.weights);
 }
 

@@ -25,7 +25,7 @@ pub(crate) fn fill_rows(
     requires bands { first < cube.now.shape.bands }
     requires row { y < cube.now.shape.rows }
     requires some { 0 < cube.now.shape.columns }
-    requires origin { origin ≤ 65536 }
+    requires origin { origin ≤ 65544 }
     ensures numbers { AreRowsOf cube.now first 0 0 y origin rows.new }
     ensures within { AreOffsetRows (pos (2 ^ cube.now.kind.bits) -ℤ pos 1) rows.new }
 {

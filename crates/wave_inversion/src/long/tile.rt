@@ -5,20 +5,20 @@ ghost use Rattle.cube_core.specs.Image.{Image};
 ghost use Rattle.header_bits.specs.declared.params.Params.{Params as Parameters};
 ghost use Rattle.wave_inversion.specs.Inversion.{IsInverting, AreAhead, AreKeptBeside, band_at};
 ghost use Rattle.predict_core.specs.Precedence.{AreAlike};
+ghost use Rattle.wave_inversion.specs.Wave.{long_lower_of};
 ghost use Rattle.wave_inversion.specs.WaveForms.{long_form};
 ghost use Rattle.wave_inversion.specs.WaveRows.{AreFilled};
 ghost use Rattle.wave_inversion.specs.WaveTiles.{AreFound, IsFormOf, StandAsWave, end_column};
 
 use crate::finish::{ended_of, finish_lanes};
 use crate::long::begin::{end_lanes, invert_steps};
-use crate::long::central_lines::fill_from_lines;
 use crate::long::centrals::fill_centrals;
 use crate::long::collect::collect;
 use crate::long::form::LongForm;
+use crate::long::lower::fill_lower;
 use crate::long::room::LongWaveRoom;
 use crate::long::rows::fill_rows;
 use crate::long::weights::fill_weights;
-use crate::rows::fill_lines;
 use crate::tile::constants_of;
 use cube_core::cube::Cube;
 use predict_core::band::Band;
@@ -108,18 +108,14 @@ fn fill_room<const Q: usize>(
     requires row { (0 < y) × (y < cube.now.shape.rows) }
     requires inside { origin + 2 ≤ cube.now.shape.columns }
     requires form { IsFormOf (long_form form) (band_at bands.now first).predictor cube.now y }
-    ensures { AreFilled Q (long_form form) cube.now bands.now first y origin room.new.above room.new.numbers room.new.lower room.new.own room.new.weights }
+    ensures { AreFilled Q (long_form form) cube.now bands.now first y origin room.new.above room.new.numbers (long_lower_of room.new.lower) room.new.own room.new.weights }
 {
     cube.prove_is_cube();
     fill_weights::<Q>(bands, first, &mut room.weights);
     let (lines, turned) = (&mut room.lines, &mut room.turned);
-    fill_rows(cube, first, y, origin, lines, turned, &mut room.numbers);
-    fill_rows(cube, first, y - 1, origin, lines, turned, &mut room.above);
-    // No component is of a band further below than the previous ones.
-    let least = 8 - form.previous;
-    let above = &mut room.lines_above;
-    fill_lines(cube, first, 8, least, y, origin, lines);
-    fill_lines(cube, first, 8, least, y - 1, origin, above);
-    fill_from_lines(form, least, lines, above, &mut room.lower);
+    let numbers = &mut lines.numbers;
+    fill_rows(cube, first, y, origin, numbers, turned, &mut room.numbers);
+    fill_rows(cube, first, y - 1, origin, numbers, turned, &mut room.above);
+    fill_lower(cube, first, y, origin, form, lines, &mut room.lower);
     fill_centrals(form, 8, &room.numbers, &room.above, &mut room.own);
 }

@@ -1,7 +1,14 @@
-use Rattle.std.proofs.Common.{◌≡◌, ℕ, arith}
+use Rattle.std.proofs.Common.{◌≡◌, ◌+◌, ◌^◌, ℕ, arith, subst, sym}
+use Rattle.wave_inversion.specs.declared.lower.LowerRows.{LowerRows}
+use Rattle.wave_inversion.specs.Wave.{AreLowerBelow, lower_of}
 use Rattle.wave_inversion.specs.WaveTiles.{lane_count}
 use Rattle.wave_inversion.proofs.WaveBegun.{lanes_all}
 use Rattle.wave_inversion.proofs.begin.invert_steps.Goals as goal
+
+pub invert_by-requires-2-clause-lower_in : goal.invert_by-requires-2-clause-lower_in
+invert_by-requires-2-clause-lower_in g c =
+    subst (λ (rows : LowerRows). AreLowerBelow c.args.form.previous (2 ^ (c.args.form.step.bits + 2)) (lower_of rows))
+    (sym (c.begin_lanes.ensures.lower c.if-not-begin_lanes.false)) c.requires.lower_in
 
 pub returns-clause-inverted : goal.returns-clause-inverted
 returns-clause-inverted g c said p s d y last lanes fits begin start =

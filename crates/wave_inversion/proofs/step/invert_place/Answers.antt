@@ -7,7 +7,7 @@ use Rattle.std.proofs.lemmas.Nat.{pow_pos}
 use Rattle.lanes.specs.Lanes.{lane, place}
 use Rattle.band_lanes.specs.declared.pairs.Pairs.{Pairs}
 use Rattle.band_lanes.specs.Rows.{AreBelow, row_at, no_pairs}
-use Rattle.wave_inversion.specs.Wave.{sum_at, component_in}
+use Rattle.wave_inversion.specs.Wave.{sum_at, component_in, lower_of}
 use Rattle.predict_core.proofs.LaneVectors.{all_below}
 use Rattle.predict_core.proofs.Components.{three}
 use Rattle.predict_core.proofs.LaneVectors.{components_at}
@@ -59,11 +59,11 @@ module _ (g : given.Over) (c : After-put_components g) where
     where
       one : (index j b : ℕ) → j < g.row.Q → b < 8 → {v : ℤ}
           → v ≡ component_in c.args.form.reduced c.args.form.previous (c.differences.result ∷ c.differences-2.result ∷ c.differences-3.result ∷ [])
-          c.args.lower.now c.args.own.now c.args.k index b
+          (lower_of c.args.lower.now) c.args.own.now c.args.k index b
           → unsigned_abs v < limit
       one index j b m l e =
           let k = c.requires.step in
-          rw e (component_below c.args.form.reduced c.args.form.previous (c.differences.result ∷ c.differences-2.result ∷ c.differences-3.result ∷ []) c.args.lower.now
+          rw e (component_below c.args.form.reduced c.args.form.previous (c.differences.result ∷ c.differences-2.result ∷ c.differences-3.result ∷ []) (lower_of c.args.lower.now)
           c.args.own.now c.args.k index b limit some (omega (arith, k.0), omega (arith, k.1)) c.args.form.previous_in l
           (three (λ i. unsigned_abs (place (c.differences.result ∷ c.differences-2.result ∷ c.differences-3.result ∷ []) i b) < limit)
           (rw (north b l) (difference_small b l _ (c.requires.above_in c.args.k b (omega (arith, k.1)) l)))

@@ -4,13 +4,11 @@ use Rattle.std.specs.List.{slice_get}
 use Rattle.std.proofs.lemmas.Int.{ints}
 use Rattle.std.proofs.lemmas.List.{get_or-take, get_or-drop}
 use Rattle.std.proofs.lemmas.Option.{slice_get-get_or}
-use Rattle.lanes.specs.Lanes.{place}
 use Rattle.wave_inversion.specs.declared.form.Form.{Form}
 use Rattle.predict_core.specs.Following.{PredictorState}
 use Rattle.predict_core.specs.Following.{no_band}
 use Rattle.wave_inversion.specs.Inversion.{band_at}
-use Rattle.wave_inversion.specs.Wave.{AreOffsetLines, AreOffsetRows}
-use Rattle.wave_inversion.proofs.WaveLines.{centrals_of_lines, rows_of_lines, turned}
+use Rattle.wave_inversion.specs.Wave.{AreOffsetRows}
 use Rattle.wave_inversion.proofs.tile.fill_room.Given as given
 use Rattle.wave_inversion.proofs.tile.fill_room.Goals as goal
 use Rattle.wave_inversion.proofs.tile.fill_room.Goals.{After-fill_rows-2}
@@ -40,14 +38,6 @@ module _ (g : given.Over) (c : After-fill_rows-2 g) where
   numbers_in : AreOffsetRows c.args.form.greatest c.fill_rows.new.rows
   numbers_in = subst (λ n. AreOffsetRows n c.fill_rows.new.rows) (greatest_is c.args.form _ c.requires.form.bits) c.fill_rows.ensures.within
 
-pub fill_central_lines-requires-clause-numbers_in : goal.fill_central_lines-requires-clause-numbers_in
-fill_central_lines-requires-clause-numbers_in g c =
-    subst (λ n. AreOffsetLines (8 - c.args.form.previous) n c.fill_narrow_lines.new.lines) (greatest_is c.args.form _ c.requires.form.bits) c.fill_narrow_lines.ensures.within
-
-pub fill_central_lines-requires-clause-above_in : goal.fill_central_lines-requires-clause-above_in
-fill_central_lines-requires-clause-above_in g c =
-    subst (λ n. AreOffsetLines (8 - c.args.form.previous) n c.fill_narrow_lines-2.new.lines) (greatest_is c.args.form _ c.requires.form.bits) c.fill_narrow_lines-2.ensures.within
-
 pub fill_centrals-requires-clause-numbers_in : goal.fill_centrals-requires-clause-numbers_in
 fill_centrals-requires-clause-numbers_in g c = numbers_in g (goal.at.fill_centrals-requires-clause-numbers_in g c).After-fill_rows-2
 
@@ -57,22 +47,17 @@ fill_centrals-requires-clause-above_in g c = above_in g (goal.at.fill_centrals-r
 pub returns : goal.returns
 returns g c said =
     let d = (goal.at.returns g c).After-fill_rows-2 in record {
-      lower_numbers = turned (λ b i. place c.fill_narrow_lines.new.lines b i) (8 - c.args.form.previous);
-      lower_above = turned (λ b i. place c.fill_narrow_lines-2.new.lines b i) (8 - c.args.form.previous);
       above_is = c.fill_rows-2.ensures.numbers;
       numbers_is = c.fill_rows.ensures.numbers;
-      lower_numbers_is = rows_of_lines (λ b i. place c.fill_narrow_lines.new.lines b i) c.fill_narrow_lines.ensures.numbers;
-      lower_above_is = rows_of_lines (λ b i. place c.fill_narrow_lines-2.new.lines b i) c.fill_narrow_lines-2.ensures.numbers;
-      lower_is = centrals_of_lines c.args.form.column (λ b i. place c.fill_narrow_lines.new.lines b i) (λ b i. place c.fill_narrow_lines-2.new.lines b i)
-          c.turn.new.rows (8 - c.args.form.previous)
-          (λ b i m used low high. c.turn.ensures i b (omega (arith, high)) m ∙ c.fill_central_lines.ensures.values b i m used low high)
-          (λ b i m l before. c.turn.ensures i b l m ∙ c.fill_central_lines.ensures.none b i m l before);
+      near_is = c.fill_lower.ensures.near;
+      beside_is = c.fill_lower.ensures.beside;
+      far_is = c.fill_lower.ensures.far;
       own_is = c.fill_centrals.ensures.values;
       has = λ b fits.
           c.fill_weights.ensures c.if-not-fill_weights.false b (band_at c.args.bands.now (min (c.args.first + b) (length c.args.bands.now - 1))) fits
           (of_eight c.args.bands.now c.args.first c.min-last.result b c.requires.some c.min-last.ensures fits);
       above_in = above_in g d;
       numbers_in = numbers_in g d;
-      lower_in = λ k b h m. rw (c.turn.ensures k b h m) (c.fill_central_lines.ensures.below b k m h);
+      lower_in = c.fill_lower.ensures.within;
       own_in = c.fill_centrals.ensures.below;
     }

@@ -1,10 +1,12 @@
-use Rattle.std.proofs.Common.{◌≡◌, ◌+◌, length, sym, refl, arith}
+use Rattle.std.proofs.Common.{◌≡◌, ◌+◌, ◌^◌, length, sym, refl, subst, arith}
 use Rattle.std.proofs.lemmas.Option.{slice_get_read, get_or_from_slice_get}
 use Rattle.predict_core.specs.Following.{no_band}
 use Rattle.wave_inversion.specs.Inversion.{band_at}
 use Rattle.wave_inversion.specs.WaveForms.{narrow_form}
 use Rattle.wave_inversion.proofs.WaveFound.{are_found, omega_same, weights_small, settings}
 use Rattle.wave_inversion.proofs.WaveBegun.{IsBegun}
+use Rattle.wave_inversion.specs.declared.lower.LowerRows.{LowerRows}
+use Rattle.wave_inversion.specs.Wave.{AreLowerBelow, lower_of}
 use Rattle.wave_inversion.proofs.tile.invert_lanes.Given as given
 use Rattle.wave_inversion.proofs.tile.invert_lanes.Goals as goal
 use Rattle.wave_inversion.proofs.tile.invert_lanes.Goals.{After-ended_of-lanes}
@@ -15,7 +17,7 @@ module _ (g : given.Over) (c : After-ended_of-lanes g) where
       (slice_get_read c.args.bands.now (length c.args.bands.now) c.args.first c.index-bands-first.result refl c.requires.some c.index-bands-first.is))
 
   begun : IsBegun g.row.Q (narrow_form c.args.form) c.args.cube.now c.args.bands.now c.args.first c.args.y c.args.origin c.args.last
-      c.constants_of-constants.result c.fill_room.new.room.above c.fill_room.new.room.numbers c.fill_room.new.room.lower c.fill_room.new.room.own
+      c.constants_of-constants.result c.fill_room.new.room.above c.fill_room.new.room.numbers (lower_of c.fill_room.new.room.lower) c.fill_room.new.room.own
       c.fill_room.new.room.weights
   begun =
       let base = rw here at c.constants_of-constants.ensures in record {
@@ -40,6 +42,11 @@ invert_steps-requires-clause-omega g c b fits exists =
 
 pub invert_steps-requires-clause-weights_in : goal.invert_steps-requires-clause-weights_in
 invert_steps-requires-clause-weights_in g c = weights_small (begun g (goal.at.invert_steps-requires-clause-weights_in g c).After-ended_of-lanes) c.requires.inverting.2
+
+pub end_lanes-requires-clause-lower_in : goal.end_lanes-requires-clause-lower_in
+end_lanes-requires-clause-lower_in g c =
+    subst (λ (rows : LowerRows). AreLowerBelow c.args.form.previous (2 ^ (c.args.form.step.bits + 2)) (lower_of rows))
+    (sym (c.invert_steps.ensures.lower c.if-not-invert_steps.false)) (c.fill_room.ensures c.if-not-fill_room.false).lower_in
 
 pub returns : goal.returns
 returns g c said =

@@ -5,7 +5,7 @@ use Rattle.std.proofs.lemmas.Int.{ints}
 use Rattle.std.proofs.lemmas.Nat.{pow_pos}
 use Rattle.lanes.specs.Lanes.{lane, place}
 use Rattle.band_lanes.specs.Rows.{AreRowsWithin}
-use Rattle.wave_inversion.specs.Wave.{sum_at, component_in}
+use Rattle.wave_inversion.specs.Wave.{sum_at, component_in, long_lower_of}
 use Rattle.predict_core.proofs.LaneVectors.{by_pairs}
 use Rattle.predict_core.proofs.Components.{three}
 use Rattle.wave_inversion.proofs.WaveParts.{component_below, difference_below}
@@ -56,11 +56,11 @@ module _ (g : given.Over) (c : After-put_components g) where
     where
       one : (index b : ℕ) → b < 8 → {v : ℤ}
           → v ≡ component_in (not (nat_eq g.row.REDUCED 0)) c.args.form.previous (c.differences.result ∷ c.differences-2.result ∷ c.differences-3.result ∷ [])
-          c.args.lower.now c.args.own.now c.args.k index b
+          (long_lower_of c.args.lower.now) c.args.own.now c.args.k index b
           → unsigned_abs v ≤ limit
       one index b l e =
           let k = c.requires.step in
-          let small = component_below (not (nat_eq g.row.REDUCED 0)) c.args.form.previous (c.differences.result ∷ c.differences-2.result ∷ c.differences-3.result ∷ []) c.args.lower.now
+          let small = component_below (not (nat_eq g.row.REDUCED 0)) c.args.form.previous (c.differences.result ∷ c.differences-2.result ∷ c.differences-3.result ∷ []) (long_lower_of c.args.lower.now)
           c.args.own.now c.args.k index b limit some (omega (arith, k.0), omega (arith, k.1)) c.args.form.previous_in l
           (three (λ i. unsigned_abs (place (c.differences.result ∷ c.differences-2.result ∷ c.differences-3.result ∷ []) i b) < limit)
           (rw (north b l) (difference_small b l _ (c.requires.above_in c.args.k b (omega (arith, k.1)) l)))

@@ -5,6 +5,7 @@ use Rattle.wave_inversion.specs.Inversion.{band_at}
 use Rattle.wave_inversion.specs.WaveForms.{long_form}
 use Rattle.wave_inversion.proofs.WaveFound.{are_found, omega_same, weights_small, settings}
 use Rattle.wave_inversion.proofs.WaveBegun.{IsBegun}
+use Rattle.wave_inversion.specs.Wave.{long_lower_of}
 use Rattle.wave_inversion.proofs.long.tile.invert_lanes.Given as given
 use Rattle.wave_inversion.proofs.long.tile.invert_lanes.Goals as goal
 use Rattle.wave_inversion.proofs.long.tile.invert_lanes.Goals.{After-ended_of-lanes}
@@ -15,7 +16,7 @@ module _ (g : given.Over) (c : After-ended_of-lanes g) where
       (slice_get_read c.args.bands.now (length c.args.bands.now) c.args.first c.index-bands-first.result refl c.requires.some c.index-bands-first.is))
 
   begun : IsBegun g.row.Q (long_form c.args.form) c.args.cube.now c.args.bands.now c.args.first c.args.y c.args.origin c.args.last
-      c.constants_of-constants.result c.fill_room.new.room.above c.fill_room.new.room.numbers c.fill_room.new.room.lower c.fill_room.new.room.own
+      c.constants_of-constants.result c.fill_room.new.room.above c.fill_room.new.room.numbers (long_lower_of c.fill_room.new.room.lower) c.fill_room.new.room.own
       c.fill_room.new.room.weights
   begun =
       let base = rw here at c.constants_of-constants.ensures in record {
