@@ -12,9 +12,6 @@ pub mod Built
 pub mod OneCube
 pub mod Gathered
 pub mod Numbers
-pub mod Opening
-pub mod OpenRanges
-pub mod OpenLines
 pub mod Ranges
 pub mod Told
 pub mod Largest

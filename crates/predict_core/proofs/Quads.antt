@@ -1,21 +1,19 @@
 -- Components in quads of four.
-use Rattle.std.proofs.Common.{◌≡◌, ◌≢◌, ℕ, zero, suc, ◌+◌, ◌-◌, ◌*◌, ◌<◌, ◌≤◌, ◌||◌, ◌==◌, ℤ, pos, Bool, true, false, List, [], ◌∷◌, ◌++◌, map, take, drop, set}
-use Rattle.std.proofs.Common.{true≢false, get_or, length, replicate, if◌then◌else◌, arith, refl, sym, ap, inl, inr, ap₂, ◌∙◌, add-one, append_assoc, append-nil}
+use Rattle.std.proofs.Common.{◌≡◌, ◌≢◌, ℕ, zero, suc, ◌+◌, ◌-◌, ◌*◌, ◌<◌, ◌≤◌, ◌||◌, ◌==◌, ℤ, pos, Bool, true, false, List, [], ◌∷◌, ◌++◌, map, take, set}
+use Rattle.std.proofs.Common.{get_or, length, replicate, arith, refl, sym, ap, inl, inr, ap₂, ◌∙◌, add-one, append_assoc, append-nil}
 use Rattle.std.proofs.Math.Seq.{take-suc-set}
 use Rattle.std.proofs.lemmas.List.Concat.{flat_map-append}
-use Rattle.std.proofs.lemmas.List.{get_or-replicate, get_or_past, length-map, length-replicate}
+use Rattle.std.proofs.lemmas.List.{get_or-replicate, get_or_past, length-replicate}
 use Rattle.std.proofs.lemmas.Bool.{cases_lt}
 use Rattle.std.proofs.lemmas.Bool.Decides.{nat_tests}
 use Rattle.cube_core.specs.Image.{Image}
 use Rattle.cube_core.specs.Order.{from}
-use Rattle.cube_core.proofs.Lists.{length-from}
 use Rattle.sample_prediction.specs.declared.predictor.Predictor.{Predictor}
 use Rattle.predict_core.specs.declared.differences.room.Quad.{Quad}
 use Rattle.sample_prediction.specs.Predictor.{previous_bands, component_count}
 use Rattle.sample_prediction.specs.Differences.{central_difference, directional_differences, spectral_differences, difference_vector}
 use Rattle.sample_prediction.specs.Lines.{line_difference}
 use Rattle.predict_core.specs.Rooms.{components_at, quads_of, lower_difference, lower_differences}
-use Rattle.predict_core.specs.OpenPart.{IsOpenPart, open_sum, open_directions}
 use Rattle.sample_prediction.proofs.Directions.{directional_first, reduced_vector_is, full_vector_is, reduced_count, full_count}
 
 -- one quad more
@@ -110,41 +108,6 @@ module _ (p : Predictor) (c : Image) (z y x : ℕ) where
       ∙ sym (append_assoc (directional_differences p c z y x) (spectral_differences p c z y x (previous_bands p z))
       (replicate (1 + 4 * (quads_of count - 1) - previous_bands p z) (pos 0)))
       ∙ ap₂ (λ us k. us ++ replicate k (pos 0)) (sym (full_vector_is p c z y x r)) (sym m)
-
-  length-lower : (k n : ℕ) → length (lower_differences p c z y x k n) ≡ n
-  unfolding lower_differences
-  length-lower k n = length-map (from k n) _ ∙ length-from k n
-
-  pub reduced_part : (count : ℕ) (sum : ℤ) (xs : List ℤ) → p.reduced ≡ true → count ≡ component_count p z → sum ≡ open_sum p c z y x
-      → xs ≡ lower_differences p c z y x 1 (4 * (quads_of count - 0)) → IsOpenPart p c z y x count sum xs
-  reduced_part count sum xs r e is h =
-      let n : count ≡ previous_bands p z = e ∙ reduced_count p z r in let s : 4 * (quads_of count - 0) ≡ 4 * quads_of count = omega arith in
-      let padded = h ∙ ap (λ m. lower_differences p c z y x 1 m) s ∙ lower_padded (4 * quads_of count) (omega (arith, n)) in record {
-        sum_is = is;
-        long = ap length h ∙ length-lower 1 (4 * (quads_of count - 0)) ∙ s;
-        directions = λ f. absurd (true≢false (sym r ∙ f));
-        lower = ap (λ (b : Bool). drop (if b then 0 else 3) xs) r ∙ padded
-            ∙ ap (λ m. spectral_differences p c z y x (previous_bands p z) ++ replicate (4 * quads_of count - m) (pos 0)) (sym n);
-      }
-
-  -- with the open part of the directions
-  pub full_part : (count : ℕ) (sum : ℤ) (xs : List ℤ) (a b d below : ℤ) → p.reduced ≡ false → count ≡ component_count p z → sum ≡ open_sum p c z y x
-      → a ∷ b ∷ d ∷ [] ≡ open_directions p c z y x → below ≡ lower_difference p c z y x 1
-      → xs ≡ (a ∷ b ∷ d ∷ below ∷ []) ++ lower_differences p c z y x 2 (4 * (quads_of count - 1)) → IsOpenPart p c z y x count sum xs
-  full_part count sum xs a b d below r e is front first h =
-      let n : count ≡ 3 + previous_bands p z = e ∙ full_count p z r in
-      let m : 4 * quads_of count - count ≡ 1 + 4 * (quads_of count - 1) - previous_bands p z = omega (arith, n) in
-      let rest = length-lower 2 (4 * (quads_of count - 1)) in
-      let long : length xs ≡ 4 + length (lower_differences p c z y x 2 (4 * (quads_of count - 1))) = ap length h ∙ omega arith in record {
-        sum_is = is;
-        long = omega (arith, long, rest, n);
-        directions = λ f. ap (take 3) h ∙ front;
-        lower =
-            ap (λ (b : Bool). drop (if b then 0 else 3) xs) r ∙ (ap (drop 3) h ∙ ap (λ v. v ∷ lower_differences p c z y x 2 (4 * (quads_of count - 1))) first
-            ∙ sym (ap (λ us. us ++ lower_differences p c z y x 2 (4 * (quads_of count - 1))) (lower_one 1))
-            ∙ sym (lower_append 1 1 (4 * (quads_of count - 1))) ∙ lower_padded (1 + 4 * (quads_of count - 1)) (omega (arith, n))
-            ∙ ap (λ k. spectral_differences p c z y x (previous_bands p z) ++ replicate k (pos 0)) (sym m));
-      }
 
 pub zero_at : (n i : ℕ) → ◌≡◌ {A = ℕ} (get_or (replicate n 0) i 0) 0
 zero_at n i =

@@ -1,7 +1,6 @@
 pub mod Cubes
 pub mod Following
 pub mod ImageRuns
-pub mod OpenPart
 pub mod Largest
 pub mod PredictorStates
 pub mod Precedence

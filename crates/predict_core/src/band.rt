@@ -11,7 +11,6 @@ ghost use Rattle.sample_prediction.specs.Residual.{mapped, mapped_residual};
 ghost use Rattle.sample_prediction.specs.Bounds.{AllWithin};
 ghost use Rattle.predict_core.specs.Following.{Follows, IsMadeFor, MovesOn};
 
-use crate::differences::west::WestMasks;
 use crate::prediction::{first_scaled, learn, predict};
 use crate::run::PIECE;
 use crate::settings::Settings;
@@ -82,7 +81,6 @@ impl Band {
             band: z,
             near: previous,
             count: first + previous,
-            west: WestMasks::of(params.reduced, params.column),
         };
         Ok(Band {
             settings,

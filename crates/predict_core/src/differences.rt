@@ -4,4 +4,3 @@ pub(crate) mod below;
 pub mod fills;
 pub mod lines;
 pub(crate) mod room;
-pub(crate) mod west;

@@ -1,8 +1,10 @@
 //! The prediction of one sample and the weight update after it: one step of a band's predictor.
 
-ghost use Rattle.std.specs.Prelude.{◌≡◌, ◌+◌, ◌-◌, ◌*◌, ◌^◌, ◌<◌, pos, negsuc, ◌-ℤ◌, ◌*ℤ◌, ◌≤ℤ◌, int_lt, take, ◌++◌, replicate, ℤ, List, length};
+ghost use Rattle.std.specs.Prelude.{◌≡◌, ◌+◌, ◌-◌, ◌*◌, ◌^◌, ◌<◌, ◌≤◌, pos, negsuc, ◌+ℤ◌, ◌-ℤ◌, ◌*ℤ◌, ◌≤ℤ◌, int_lt, take, ◌++◌, replicate, ℤ, List, length};
 ghost use Rattle.cube_core.specs.Image.{IsPlace};
+ghost use Rattle.cube_core.specs.Kind.{smin};
 ghost use Rattle.sample_prediction.specs.Predictor.{component_count};
+ghost use Rattle.sample_prediction.specs.LocalSum.{local_sum};
 ghost use Rattle.sample_prediction.specs.Differences.{difference_vector as vector};
 ghost use Rattle.sample_prediction.specs.Weights.{step_exponent, updated_weights};
 ghost use Rattle.sample_prediction.specs.Prediction.{scaled_there, first_scaled as first_prediction};
@@ -17,6 +19,13 @@ use sample_prediction::prediction::scaled_by;
 use sample_prediction::predictor::MOST_COMPONENTS;
 use sample_prediction::rows::Rows;
 use sample_prediction::weights::{StepShift, step_shift, update};
+
+/// What a place is predicted from: its local sum, of offsets, and its local differences, followed by zeros.
+#[derive(Clone, Copy)]
+pub(crate) struct Local {
+    pub sum: u32,
+    pub differences: [i32; MOST_COMPONENTS],
+}
 
 /// The prediction at a place, and the differences that it comes from.
 #[derive(Clone, Copy)]
@@ -67,9 +76,42 @@ pub(crate) fn predict(
     rows.prove_is_row();
     let predictor = &settings.predictor;
     let range = &settings.range;
+    let local = local_at::<MOST_COMPONENTS>(settings, rows, y, x);
+    let whole = 4 * range.smin + local.sum as i32;
+    let scaled = scaled_by(
+        predictor,
+        range,
+        settings.count,
+        whole,
+        weights,
+        &local.differences,
+    );
+    Prediction {
+        scaled,
+        differences: local.differences,
+    }
+}
+
+/// Returns the local sum and the local differences, at most `N`, at a place that is not the first of its band.
+#[inline(always)]
+pub(crate) fn local_at<const N: usize>(settings: &Settings, rows: &Rows, y: u32, x: u32) -> Local
+    requires enough { settings.now.count ≤ N }
+    requires row { rows.now.y ≡ y }
+    requires place { IsPlace rows.now.image.shape settings.now.band y x }
+    requires columns { rows.now.image.shape.columns ≡ settings.now.columns }
+    requires kind { rows.now.image.kind ≡ settings.now.range.kind }
+    requires later { 0 < y + x }
+    ensures sum { local_sum settings.now.predictor rows.now.image settings.now.band y x ≡ pos 4 *ℤ smin rows.now.image.kind +ℤ pos result.sum }
+    ensures sum_in { result.sum ≤ 262140 }
+    ensures differences { result.differences ≡ vector settings.now.predictor rows.now.image settings.now.band y x ++ replicate
+        (18 - component_count settings.now.predictor settings.now.band) (pos 0) }
+    ensures bound { AllWithin (4 * 2 ^ settings.now.range.bits) result.differences }
+{
+    rows.prove_is_row();
+    let predictor = &settings.predictor;
     let sum = sum_at(predictor, rows, settings.band, y, x);
     let mut differences = [0i32; MOST_COMPONENTS];
-    fill_differences(
+    fill_differences::<N>(
         predictor,
         rows,
         settings.band,
@@ -79,19 +121,7 @@ pub(crate) fn predict(
         settings.near,
         &mut differences,
     );
-    let whole = 4 * range.smin + sum as i32;
-    let scaled = scaled_by(
-        predictor,
-        range,
-        settings.count,
-        whole,
-        weights,
-        &differences,
-    );
-    Prediction {
-        scaled,
-        differences,
-    }
+    Local { sum, differences }
 }
 
 /// Updates the weights after a sample at place `t`.

@@ -4,9 +4,7 @@ ghost use Rattle.std.specs.Prelude.{◌≡◌, ◌≤◌, false};
 ghost use Rattle.cube_core.specs.Shape.{InRange};
 ghost use Rattle.sample_prediction.specs.Predictor.{previous_bands, component_count};
 ghost use Rattle.sample_prediction.specs.Bounds.{IsPredictor};
-ghost use Rattle.predict_core.specs.OpenPart.{AreWestMasks};
 
-use crate::differences::west::WestMasks;
 use sample_prediction::predictor::Predictor;
 use sample_prediction::sample_limits::SampleLimits;
 
@@ -21,13 +19,10 @@ pub struct Settings {
     pub near: usize,
     /// The number of weights in use.
     pub count: usize,
-    /// The masks with which the offset to the west is added.
-    pub(crate) west: WestMasks,
     pub ghost lawful: { IsPredictor predictor },
     pub ghost columns_in: { InRange 1 65536 columns },
     pub ghost near_is: { near ≡ previous_bands predictor band },
     pub ghost count_is: { count ≡ component_count predictor band },
     pub ghost few: { count ≤ 18 },
-    pub ghost west_is: { AreWestMasks predictor.reduced predictor.column west },
     pub ghost wide: { predictor.column ≡ false → 2 ≤ columns },
 }

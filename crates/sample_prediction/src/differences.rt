@@ -17,10 +17,10 @@ use crate::rows::Rows;
 /// Writes all differences at a place that is not the first of its band into an array of zeros, in full mode the
 /// directional ones first.
 ///
-/// `sum` is the local sum of the offsets there, and `near` the number of bands below that are used
-/// (CCSDS 123.0-B-1, "Local Differences").
+/// `sum` is the local sum of the offsets there, and `near` the number of bands below that are used, at most `N`
+/// (CCSDS 123.0-B-1, "Local Differences"). Where `N` is small, the compiler keeps the differences in registers.
 #[inline(always)]
-pub fn fill_differences(
+pub fn fill_differences<const N: usize>(
     predictor: &Predictor,
     rows: &Rows,
     z: u32,
@@ -38,15 +38,16 @@ pub fn fill_differences(
     requires sum_is { local_sum predictor.now rows.now.image z y x ≡ pos 4 *ℤ smin rows.now.image.kind +ℤ pos sum }
     requires sum_in { sum ≤ 262140 }
     requires near_is { near ≡ previous_bands predictor.now z }
+    requires few { near ≤ N }
     requires clear { out.old ≡ replicate 18 (pos 0) }
     ensures value { out.new ≡ vector predictor.now rows.now.image z y x ++ replicate (18 - component_count predictor.now z) (pos 0) }
     ensures bound { AllWithin 262144 out.new }
 {
     if predictor.reduced {
-        fill_spectral(predictor, rows, z, y, x, 0, near, out);
+        fill_spectral::<N>(predictor, rows, z, y, x, 0, near, out);
     } else {
         fill_directional(predictor, rows, z, y, x, sum, out);
-        fill_spectral(predictor, rows, z, y, x, 3, near, out);
+        fill_spectral::<N>(predictor, rows, z, y, x, 3, near, out);
     }
 }
 
@@ -68,7 +69,7 @@ pub fn sum_at(predictor: &Predictor, rows: &Rows, z: u32, y: u32, x: u32) -> u32
 /// Returns the offset of the sample to the west of a place below the first row; in the first column, of the one
 /// to the north.
 #[inline(always)]
-pub fn west_of(rows: &Rows, z: u32, y: u32, x: u32) -> u16
+fn west_of(rows: &Rows, z: u32, y: u32, x: u32) -> u16
     requires row { rows.now.y ≡ y }
     requires place { IsPlace rows.now.image.shape z y x }
     requires later { 0 < y }
@@ -151,9 +152,9 @@ fn put_directions(north: i32, west: i32, north_west: i32, out: &mut [i32; MOST_C
     out[2] = north_west;
 }
 
-/// Writes the central differences of the `count` bands below `z`, the nearest first, from index `first` on.
+/// Writes the central differences of the `count` bands below `z`, at most `N`, the nearest first, from index `first` on.
 #[inline(always)]
-pub fn fill_spectral(
+fn fill_spectral<const N: usize>(
     predictor: &Predictor,
     rows: &Rows,
     z: u32,
@@ -168,13 +169,15 @@ pub fn fill_spectral(
     requires later { 0 < y + x }
     requires wide { predictor.now.column ≡ false → 2 ≤ rows.now.image.shape.columns }
     requires bands { count ≤ z }
+    requires few { count ≤ N }
     requires room { first + count ≤ 18 }
     requires clear { drop first out.old ≡ replicate (18 - first) (pos 0) }
     requires small { AllWithin 262144 out.old }
     ensures value { out.new ≡ take first out.old ++ spectral_differences predictor.now rows.now.image z y x count ++ replicate (18 - first - count) (pos 0) }
     ensures bound { AllWithin 262144 out.new }
 {
-    for i in 0..count {
+    // The bound tells the compiler how often at most, so that it unrolls the loop.
+    for i in 0..count.min(N) {
         out[first + i] = central(predictor, rows, z - 1 - i as u32, y, x);
     }
 }

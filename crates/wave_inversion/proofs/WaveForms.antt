@@ -48,12 +48,10 @@ constants_at s z = record {
   band = z;
   near = previous_bands s.predictor z;
   count = component_count s.predictor z;
-  west = s.west;
   lawful = s.lawful;
   columns_in = s.columns_in;
   near_is = refl;
   count_is = refl;
   few = counted s.predictor.reduced z s.predictor.previous s.lawful.few;
-  west_is = s.west_is;
   wide = s.wide;
 }

@@ -6,7 +6,7 @@
 ghost use Rattle.std.specs.Prelude.{◌≡◌, ◌<◌, ◌≤◌, ℕ, pos, [], ◌∷◌, ◌++◌, slice_index_or, unsigned_abs, replicate};
 ghost use Rattle.sample_prediction.specs.Lines.{line_sum, line_difference, line_directions};
 
-use crate::differences::lines::{LINE, Lines, sum_above, sum_of_lines};
+use crate::differences::lines::{Lines, sum_of_lines};
 use crate::run::PIECE;
 use sample_prediction::neighbourhood::difference_of;
 
@@ -83,38 +83,6 @@ pub(crate) fn fill_directions(
         let west = difference_of(lines.current[i], sum);
         let north_west = difference_of(lines.above[i], sum);
         out[i] = [north, west, north_west, central_at(column, below, i)];
-    }
-}
-
-/// Writes the local sums of offsets and the quads of directions and of the band below, from the line `above` alone, as if
-/// each offset to the west were 0.
-pub(crate) fn fill_open_directions(
-    column: bool,
-    above: &[u16; LINE],
-    below: &Lines,
-    sums: &mut [i32; PIECE],
-    out: &mut [[i32; 4]; PIECE],
-)
-    ensures sums { (i : ℕ) → i < PIECE → slice_index_or sums.new i (pos 0) ≡ pos (line_sum column (replicate LINE 0) above.now i) }
-    ensures quads { (i : ℕ) → i < PIECE → slice_index_or out.new i [] ≡ line_directions column (replicate LINE 0) above.now i ++ line_difference column
-        below.now.current below.now.above i ∷ [] }
-{
-    for i in 0..PIECE {
-        let sum = sum_above(column, above, i);
-        sums[i] = sum as i32;
-        let north = difference_of(above[i + 1], sum);
-        let west = difference_of(0, sum);
-        let north_west = difference_of(above[i], sum);
-        out[i] = [north, west, north_west, central_at(column, below, i)];
-    }
-}
-
-/// Writes the local sum of offsets of each place as if the offset to the west were 0.
-pub(crate) fn fill_open_sums(column: bool, above: &[u16; LINE], sums: &mut [i32; PIECE])
-    ensures { (i : ℕ) → i < PIECE → slice_index_or sums.new i (pos 0) ≡ pos (line_sum column (replicate LINE 0) above.now i) }
-{
-    for i in 0..PIECE {
-        sums[i] = sum_above(column, above, i) as i32;
     }
 }
 

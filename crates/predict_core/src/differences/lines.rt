@@ -43,13 +43,7 @@ pub fn fill_run_lines(predictor: &Predictor, run: &Run, z: u32, lines: &mut Line
 }
 
 /// Writes the neighbours of `count` places from column `x` on that are in the row above them.
-pub(crate) fn fill_line_above(
-    column: bool,
-    above: &[u16],
-    x: usize,
-    count: usize,
-    upper: &mut [u16; LINE],
-)
+fn fill_line_above(column: bool, above: &[u16], x: usize, count: usize, upper: &mut [u16; LINE])
     requires few { count ≤ PIECE }
     requires inside { x + count ≤ length above.now }
     requires some { 1 ≤ length above.now }
@@ -170,20 +164,6 @@ pub(crate) fn sum_of_lines(
         4 * upper[i + 1] as u32
     } else {
         current[i] as u32 + upper[i] as u32 + upper[i + 1] as u32 + upper[i + 2] as u32
-    }
-}
-
-/// The same from the line above alone, as if the offset to the west were 0.
-#[inline(always)]
-pub(crate) fn sum_above(column: bool, above: &[u16; LINE], i: usize) -> u32
-    requires { i < PIECE }
-    ensures value { result ≡ line_sum column (replicate LINE 0) above.now i }
-    ensures bound { result ≤ 262140 }
-{
-    if column {
-        4 * above[i + 1] as u32
-    } else {
-        above[i] as u32 + above[i + 1] as u32 + above[i + 2] as u32
     }
 }
 

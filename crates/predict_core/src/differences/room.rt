@@ -3,22 +3,16 @@
 //! The components of a place are in quads of four, each written by one loop over all places.
 
 ghost use Rattle.std.specs.Prelude.{◌≡◌, ◌+◌, ◌-◌, ◌<◌, ◌≤◌, ◌||◌, ◌==◌, ℕ, ℤ, [], ◌∷◌, ◌++◌, slice_index_or, pos};
-ghost use Rattle.cube_core.specs.Image.{IsPlace};
 ghost use Rattle.sample_prediction.specs.Differences.{directional_differences};
 ghost use Rattle.sample_prediction.specs.Lines.{line_sum, line_difference, AreBandLines};
 ghost use Rattle.predict_core.specs.ImageRuns.{IsRunOf};
 ghost use Rattle.predict_core.specs.Rooms.{IsRoom, components_at, quads_of, lower_differences};
-ghost use Rattle.predict_core.specs.OpenPart.{IsOpenPart};
 
 use crate::differences::below::{fill_below, fill_spectral};
-use crate::differences::fills::{
-    fill_directions, fill_four, fill_open_directions, fill_open_sums, fill_own,
-};
-use crate::differences::lines::{LINE, Lines, fill_line_above, fill_run_lines, is_column};
+use crate::differences::fills::{fill_directions, fill_four, fill_own};
+use crate::differences::lines::{Lines, fill_run_lines, is_column};
 use crate::run::{PIECE, Run};
 use crate::settings::Settings;
-use cube_core::cube::Cube;
-use sample_prediction::rows::Rows;
 
 /// Four components at each place of a run.
 #[derive(Clone, Copy)]
@@ -54,60 +48,6 @@ pub(crate) fn fill_run<const Q: usize>(
         fill_first(settings, run, &lines, sums, own, first);
         fill_spectral::<Q>(settings, run, 1, 2, quads);
     }
-}
-
-/// Writes the local sums of offsets and the components of `count` places from row `y`, column `x` on, as if each offset to
-/// the west were 0: they depend on the row above and the previous bands alone.
-///
-/// The row is below the first one. The results are laid out as those of `fill_run`.
-pub(crate) fn fill_open_part<const Q: usize>(
-    settings: &Settings,
-    cube: &Cube,
-    y: u32,
-    x: u32,
-    count: usize,
-    sums: &mut [i32; PIECE],
-    quads: &mut [Quad; Q],
-)
-    requires place { IsPlace cube.now.shape settings.now.band y x }
-    requires columns { cube.now.shape.columns ≡ settings.now.columns }
-    requires later { 0 < y }
-    requires some { 1 ≤ count }
-    requires few { count ≤ PIECE }
-    requires inside { x + count ≤ cube.now.shape.columns }
-    requires enough { quads_of settings.now.count ≤ Q }
-    ensures { (i : ℕ) → i < count → IsOpenPart settings.now.predictor cube.now settings.now.band y (x + i) settings.now.count
-        (slice_index_or sums.new i (pos 0)) (components_at (quads_of settings.now.count) quads.new i) }
-{
-    let column = settings.predictor.column;
-    let mut line = [0u16; LINE];
-    let rows = Rows::of(cube, y);
-    let run = Run::new(&rows, x, count);
-    let above = run.row_above(settings.band);
-    fill_line_above(column, above, x as usize, count, &mut line);
-    if settings.predictor.reduced {
-        fill_open_sums(column, &line, sums);
-        fill_spectral::<Q>(settings, &run, 0, 1, quads);
-    } else {
-        let mut below = Lines::empty();
-        fill_below(settings, &run, 1, &mut below);
-        let first = &mut quads[0].places;
-        fill_open_directions(column, &line, &below, sums, first);
-        if x == 0 {
-            put_north_first(first);
-        }
-        fill_spectral::<Q>(settings, &run, 1, 2, quads);
-    }
-}
-
-/// Replaces the north-western difference of the first place by the northern one.
-fn put_north_first(out: &mut [[i32; 4]; PIECE])
-    ensures first { (north west north_west below : ℤ) → slice_index_or out.old 0 [] ≡ north ∷ west ∷ north_west ∷ below ∷ []
-        → slice_index_or out.new 0 [] ≡ north ∷ west ∷ north ∷ below ∷ [] }
-    ensures others { (k : ℕ) → 0 < k → slice_index_or out.new k [] ≡ slice_index_or out.old k [] }
-{
-    let first = out[0];
-    out[0] = [first[0], first[1], first[0], first[3]];
 }
 
 /// Writes the sums, the central differences and the first quad in full mode: the three directions, and the

@@ -4,34 +4,22 @@
 //! Parities give the sign of an error before its sample is known.
 
 ghost use Rattle.std.specs.Prelude.{◌≡◌, ◌+◌, ◌-◌, ◌*◌, ◌^◌, ◌<◌, ◌≤◌, false, ℕ, pos, ◌+ℤ◌, ◌-ℤ◌, ◌*ℤ◌, negsuc, ◌≤ℤ◌, int_lt, int_le, unsigned_abs};
-ghost use Rattle.std.specs.Prelude.{take, drop, length, ◌++◌, replicate};
-ghost use Rattle.std.specs.Prelude.{slice_index, slice_index_or, if◌then◌else◌};
+ghost use Rattle.std.specs.Prelude.{take, length, slice_index};
 ghost use Rattle.cube_core.specs.Kind.{IsSample, smin};
 ghost use Rattle.cube_core.specs.Image.{IsPlace, put};
 ghost use Rattle.header_bits.specs.declared.params.Params.{Params as Parameters};
 ghost use Rattle.sample_prediction.specs.Arithmetic.{floor_div};
 ghost use Rattle.sample_prediction.specs.Bounds.{AllWithin};
 ghost use Rattle.sample_prediction.specs.Chain.{AreWeightsAt, scaled_by_difference};
-ghost use Rattle.sample_prediction.specs.Predictor.{previous_bands};
-ghost use Rattle.sample_prediction.specs.LocalSum.{local_sum};
-ghost use Rattle.sample_prediction.specs.Differences.{spectral_differences, difference_vector};
 ghost use Rattle.sample_prediction.specs.Prediction.{scaled_there, next_weights, weight_vector};
 ghost use Rattle.sample_prediction.specs.Residual.{mapped, run_residuals};
-ghost use Rattle.predict_core.specs.Rooms.{components_at, quads_of};
-ghost use Rattle.predict_core.specs.OpenPart.{IsOpenPart, open_directions};
 ghost use Rattle.predict_core.specs.RunPlaces.{AreAlikeBeside};
-ghost use Rattle.sample_prediction.specs.OffsetSum.{IsWest};
 ghost use Rattle.predict_core.specs.Steps.{AreSteps};
 ghost use Rattle.sample_prediction.specs.Weights.{step_exponent};
 
-use crate::differences::room::Quad;
-use crate::differences::west::{put_west, sum_with_west};
-use crate::forward::chain::differences_at;
-use crate::prediction::shift_at;
-use crate::run::PIECE;
+use crate::prediction::{local_at, shift_at};
 use crate::settings::Settings;
 use cube_core::cube::Cube;
-use sample_prediction::differences::west_of;
 use sample_prediction::exponent::places_alike;
 use sample_prediction::prediction::predicted_difference;
 use sample_prediction::predictor::MOST_COMPONENTS;
@@ -40,15 +28,13 @@ use sample_prediction::rows::Rows;
 use sample_prediction::sample_limits::SampleLimits;
 use sample_prediction::weights::{StepShift, update_by};
 
-/// A run below the first row whose samples aren't known yet: its first place, the local sums and components of its places as if
-/// each offset to the west were 0, the weights at its first place, and its mapped residuals.
+/// A run whose samples aren't known yet: its first place, which isn't the first of its band, the weights there, and its mapped
+/// residuals.
 #[derive(Clone, Copy)]
-pub(crate) struct OpenRun<'a, const Q: usize> {
+pub(crate) struct ResidualRun<'a> {
     pub settings: &'a Settings,
     pub y: u32,
     pub x: u32,
-    pub sums: &'a [i32; PIECE],
-    pub quads: &'a [Quad; Q],
     pub weights: [i32; MOST_COMPONENTS],
     pub deltas: &'a [u16],
 }
@@ -57,23 +43,19 @@ pub(crate) struct OpenRun<'a, const Q: usize> {
 ///
 /// The cube is passed by value, so that its sizes and its pointer stay in registers while samples are written.
 #[inline(always)]
-pub(crate) fn invert_places<const Q: usize, const N: usize, const WRAPS: bool>(
+pub(crate) fn invert_places<const N: usize, const WRAPS: bool>(
     mut cube: Cube,
-    run: OpenRun<Q>,
+    run: ResidualRun,
 ) -> (Cube, [i32; MOST_COMPONENTS])
     requires few_weights { N ≤ 18 }
     requires enough { run.settings.now.count ≤ N }
-    requires quads { Q ≡ quads_of run.settings.now.count }
     requires register { WRAPS ≡ false → 46 ≤ run.settings.now.predictor.register }
-    requires later { 0 < run.y }
+    requires later { 0 < run.y + run.x }
     requires place { IsPlace cube.shape run.settings.now.band run.y run.x }
     requires columns { cube.shape.columns ≡ run.settings.now.columns }
     requires kind { cube.kind ≡ run.settings.now.range.kind }
-    requires few { length run.deltas.now ≤ PIECE }
     requires inside { run.x + length run.deltas.now ≤ cube.shape.columns }
     requires residuals_in { (i : ℕ) → i < length run.deltas.now → slice_index run.deltas.now i < 2 ^ cube.kind.bits }
-    requires parts { (i : ℕ) → i < length run.deltas.now → IsOpenPart run.settings.now.predictor cube run.settings.now.band run.y (run.x + i)
-        run.settings.now.count (slice_index_or run.sums.now i (pos 0)) (components_at (quads_of run.settings.now.count) run.quads.now i) }
     requires weights_in { AllWithin (2 ^ (run.settings.now.predictor.omega + 2)) run.weights }
     ensures beside { AreAlikeBeside cube result.0 run.entry.settings.now.band run.entry.y run.entry.x (length run.entry.deltas.now) }
     ensures residuals { (p : Parameters) → AreWeightsAt p run.entry.settings.now.predictor cube run.entry.settings.now.band
@@ -87,11 +69,9 @@ pub(crate) fn invert_places<const Q: usize, const N: usize, const WRAPS: bool>(
     ensures within { AllWithin (2 ^ (run.entry.settings.now.predictor.omega + 2)) result.1 }
 {
     cube.prove_is_cube();
-    let OpenRun {
+    let ResidualRun {
         y,
         x,
-        sums,
-        quads,
         mut weights,
         deltas,
         ..
@@ -102,30 +82,20 @@ pub(crate) fn invert_places<const Q: usize, const N: usize, const WRAPS: bool>(
         shift: StepShift::none(),
         end: 0,
     };
-    let mut west = west_of(&Rows::of(&cube, y), settings.band, y, x);
     for i in 0..deltas.len() {
         let column = x + i as u32;
         stretch = stretch_at(&settings, y, x, i, deltas.len(), stretch);
-        let sum = sum_with_west(&settings, &cube, y, column, sums[i], west);
-        let components = differences_at::<Q>(quads, i);
-        let place = OpenPlace {
-            y,
-            x: column,
-            sum,
-            west,
-        };
+        let rows = Rows::of(&cube, y);
         let sample = sample_there::<N, WRAPS>(
             &settings,
-            &cube,
-            place,
+            &rows,
+            y,
+            column,
             stretch.shift,
             &mut weights,
-            &components,
             deltas[i],
         );
         cube.set(settings.band, y, column, sample);
-        // Handed on beside the cube: the next place waits for it, and not for a read of what was written.
-        west = offset_of(&settings.range, sample);
     }
     (cube, weights)
 }
@@ -186,70 +156,52 @@ fn next_stretch(settings: &Settings, y: u32, x: u32, i: usize, count: usize) -> 
     }
 }
 
-/// A place below the first row whose sample isn't known yet: its row and column, the local sum of the offsets there, and the offset
-/// to the west.
-#[derive(Clone, Copy)]
-struct OpenPlace {
-    y: u32,
-    x: u32,
-    sum: u32,
-    west: u16,
-}
-
-/// Returns the sample of a mapped residual at a place below the first row, and updates the weights.
+/// Returns the sample of a mapped residual at a place that is not the first of its band, and updates the weights.
 ///
-/// `shift` is that of the steps, and `components` are those of the place as if the offset to the west were 0.
+/// `shift` is that of the steps there.
 #[inline(always)]
 fn sample_there<const N: usize, const WRAPS: bool>(
     settings: &Settings,
-    cube: &Cube,
-    place: OpenPlace,
+    rows: &Rows,
+    y: u32,
+    x: u32,
     shift: StepShift,
     weights: &mut [i32; MOST_COMPONENTS],
-    components: &[i32; MOST_COMPONENTS],
     delta: u16,
 ) -> i32
     requires few { N ≤ 18 }
     requires enough { settings.now.count ≤ N }
     requires register { WRAPS ≡ false → 46 ≤ settings.now.predictor.register }
-    requires later { 0 < place.y }
-    requires place { IsPlace cube.now.shape settings.now.band place.y place.x }
-    requires columns { cube.now.shape.columns ≡ settings.now.columns }
-    requires kind { cube.now.kind ≡ settings.now.range.kind }
-    requires sum_is { local_sum settings.now.predictor cube.now settings.now.band place.y place.x ≡ pos 4 *ℤ smin cube.now.kind +ℤ pos place.sum }
-    requires sum_in { place.sum ≤ 262140 }
-    requires west { IsWest cube.now settings.now.band place.y place.x place.west }
+    requires row { rows.now.y ≡ y }
+    requires place { IsPlace rows.now.image.shape settings.now.band y x }
+    requires columns { rows.now.image.shape.columns ≡ settings.now.columns }
+    requires kind { rows.now.image.kind ≡ settings.now.range.kind }
+    requires later { 0 < y + x }
     requires weights_in { AllWithin (2 ^ (settings.now.predictor.omega + 2)) weights.old }
-    requires directions { settings.now.predictor.reduced ≡ false
-        → take 3 components.now ≡ open_directions settings.now.predictor cube.now settings.now.band place.y place.x }
-    requires lower { drop (if settings.now.predictor.reduced then 0 else 3) components.now ≡ spectral_differences settings.now.predictor cube.now
-        settings.now.band place.y place.x (previous_bands settings.now.predictor settings.now.band) ++ replicate (18 - settings.now.count) (pos 0) }
-    requires residual { delta < 2 ^ cube.now.kind.bits }
-    requires steps { AreSteps shift cube.now.kind.bits (step_exponent settings.now.predictor cube.now.shape.columns cube.now.kind.bits
-        (place.y * cube.now.shape.columns + place.x)) }
-    ensures range { IsSample cube.now.kind result }
-    ensures inverse { mapped cube.now.kind (scaled_there settings.now.predictor (put cube.now settings.now.band place.y place.x result) settings.now.band place.y place.x
-        (take settings.now.count weights.old)) result ≡ delta }
-    ensures weights { take settings.now.count weights.new ≡ next_weights settings.now.predictor (put cube.now settings.now.band place.y place.x result)
-        settings.now.band (place.y * cube.now.shape.columns + place.x) (take settings.now.count weights.old) }
+    requires residual { delta < 2 ^ rows.now.image.kind.bits }
+    requires steps { AreSteps shift rows.now.image.kind.bits (step_exponent settings.now.predictor rows.now.image.shape.columns
+        rows.now.image.kind.bits (y * rows.now.image.shape.columns + x)) }
+    ensures range { IsSample rows.now.image.kind result }
+    ensures inverse { mapped rows.now.image.kind (scaled_there settings.now.predictor (put rows.now.image settings.now.band y x result)
+        settings.now.band y x (take settings.now.count weights.old)) result ≡ delta }
+    ensures weights { take settings.now.count weights.new ≡ next_weights settings.now.predictor (put rows.now.image settings.now.band y x result)
+        settings.now.band (y * rows.now.image.shape.columns + x) (take settings.now.count weights.old) }
     ensures bound { AllWithin (2 ^ (settings.now.predictor.omega + 2)) weights.new }
 {
-    cube.prove_is_cube();
+    rows.prove_is_row();
     let predictor = &settings.predictor;
     let range = &settings.range;
-    let mut differences = *components;
-    put_west(
-        settings,
-        cube,
-        place.y,
-        place.x,
-        place.west,
-        &mut differences,
+    let local = local_at::<N>(settings, rows, y, x);
+    let whole = 4 * range.smin + local.sum as i32;
+    let part = predicted_difference::<N, WRAPS>(
+        predictor,
+        range,
+        whole,
+        weights,
+        &local.differences,
     );
-    let whole = 4 * range.smin + place.sum as i32;
-    let part = predicted_difference::<N, WRAPS>(predictor, range, whole, weights, &differences);
-    let found = sample_by_part(range, part, place.sum, delta);
-    update_by::<N>(weights, &differences, predictor.omega, shift, found.1);
+    let found = sample_by_part(range, part, local.sum, delta);
+    update_by::<N>(weights, &local.differences, predictor.omega, shift, found.1);
     found.0
 }
 
@@ -283,13 +235,4 @@ fn center_of(part: i32, sum: u32) -> i32
     ensures bound { unsigned_abs result ≤ 2 ^ 26 }
 {
     prediction_of(part + (sum as i32 + 2))
-}
-
-/// Returns how far a sample is above the least one.
-#[inline(always)]
-fn offset_of(range: &SampleLimits, sample: i32) -> u16
-    requires { IsSample range.now.kind sample }
-    ensures { sample ≡ smin range.now.kind +ℤ pos result }
-{
-    (sample - range.smin) as u16
 }

@@ -7,14 +7,11 @@ ghost use Rattle.sample_prediction.specs.Bounds.{AllWithin};
 ghost use Rattle.sample_prediction.specs.Chain.{AreWeightsAt};
 ghost use Rattle.sample_prediction.specs.Prediction.{weight_vector};
 ghost use Rattle.sample_prediction.specs.Residual.{mapped_residual, run_residuals};
-ghost use Rattle.predict_core.specs.Rooms.{quads_of};
 ghost use Rattle.predict_core.specs.RunPlaces.{AreAlikeBeside};
 ghost use Rattle.predict_core.specs.Following.{Follows, MovesOn, MovesBy};
 
 use crate::band::Band;
-use crate::differences::room::{Quad, fill_open_part};
-use crate::forward::run::LEAST;
-use crate::inverse::chain::{OpenRun, invert_places};
+use crate::inverse::chain::{ResidualRun, invert_places};
 use crate::run::PIECE;
 use crate::settings::Settings;
 use core::mem::replace_with;
@@ -45,12 +42,11 @@ impl Band {
         ensures follows { (p : Parameters) → Follows p self.old cube.old → Follows p self.new cube.new }
     {
         cube.prove_is_cube();
-        let count = deltas.len();
-        if count < LEAST || y == 0 {
+        if self.next == 0 {
             self.inverse_each(cube, y, x, deltas);
             return;
         }
-        self.next += count as u64;
+        self.next += deltas.len() as u64;
         let wraps = self.settings.predictor.register < 46;
         if wraps {
             invert_run::<true>(&self.settings, cube, y, x, &mut self.weights, deltas);
@@ -107,8 +103,8 @@ impl Band {
     }
 }
 
-/// Writes the samples of a run below the first row, and updates the weights. `WRAPS` may be false only if the register has 46 bits
-/// or more and so never wraps.
+/// Writes the samples of a run that doesn't begin its band, and updates the weights. `WRAPS` may be false only if the register has
+/// 46 bits or more and so never wraps.
 ///
 /// The number of weights is found once, so that the compiler knows it in the loop over places.
 fn invert_run<const WRAPS: bool>(
@@ -120,12 +116,10 @@ fn invert_run<const WRAPS: bool>(
     deltas: &[u16],
 )
     requires register { WRAPS ≡ false → 46 ≤ settings.now.predictor.register }
-    requires later { 0 < y }
+    requires later { 0 < y + x }
     requires place { IsPlace cube.old.shape settings.now.band y x }
     requires columns { cube.old.shape.columns ≡ settings.now.columns }
     requires kind { cube.old.kind ≡ settings.now.range.kind }
-    requires some { 1 ≤ length deltas.now }
-    requires few { length deltas.now ≤ PIECE }
     requires inside { x + length deltas.now ≤ cube.old.shape.columns }
     requires residuals_in { (i : ℕ) → i < length deltas.now → slice_index deltas.now i < 2 ^ cube.old.kind.bits }
     requires weights_in { AllWithin (2 ^ (settings.now.predictor.omega + 2)) weights.old }
@@ -139,27 +133,24 @@ fn invert_run<const WRAPS: bool>(
 {
     let count = settings.count;
     if count == 0 {
-        invert_by::<0, 0, WRAPS>(settings, cube, y, x, weights, deltas);
+        invert_by::<0, WRAPS>(settings, cube, y, x, weights, deltas);
     } else if count <= 4 {
-        invert_by::<1, 4, WRAPS>(settings, cube, y, x, weights, deltas);
+        invert_by::<4, WRAPS>(settings, cube, y, x, weights, deltas);
     } else if count <= 8 {
-        invert_by::<2, 8, WRAPS>(settings, cube, y, x, weights, deltas);
+        invert_by::<8, WRAPS>(settings, cube, y, x, weights, deltas);
     } else if count <= 12 {
-        invert_by::<3, 12, WRAPS>(settings, cube, y, x, weights, deltas);
+        invert_by::<12, WRAPS>(settings, cube, y, x, weights, deltas);
     } else if count <= 16 {
-        invert_by::<4, 16, WRAPS>(settings, cube, y, x, weights, deltas);
+        invert_by::<16, WRAPS>(settings, cube, y, x, weights, deltas);
     } else {
-        invert_by::<5, MOST_COMPONENTS, WRAPS>(settings, cube, y, x, weights, deltas);
+        invert_by::<MOST_COMPONENTS, WRAPS>(settings, cube, y, x, weights, deltas);
     }
 }
 
-/// `invert_run` with `N` weights, whose differences take `Q` quads.
-///
-/// What depends on the row above and the previous bands alone is computed first, for all places at once. Each place then waits
-/// for the sample to the west.
+/// `invert_run` with `N` weights.
 // One for each number of weights, so that each keeps its registers.
 #[inline(never)]
-fn invert_by<const Q: usize, const N: usize, const WRAPS: bool>(
+fn invert_by<const N: usize, const WRAPS: bool>(
     settings: &Settings,
     cube: &mut Cube,
     y: u32,
@@ -169,14 +160,11 @@ fn invert_by<const Q: usize, const N: usize, const WRAPS: bool>(
 )
     requires few_weights { N ≤ 18 }
     requires enough { settings.now.count ≤ N }
-    requires quads { Q ≡ quads_of settings.now.count }
     requires register { WRAPS ≡ false → 46 ≤ settings.now.predictor.register }
-    requires later { 0 < y }
+    requires later { 0 < y + x }
     requires place { IsPlace cube.old.shape settings.now.band y x }
     requires columns { cube.old.shape.columns ≡ settings.now.columns }
     requires kind { cube.old.kind ≡ settings.now.range.kind }
-    requires some { 1 ≤ length deltas.now }
-    requires few { length deltas.now ≤ PIECE }
     requires inside { x + length deltas.now ≤ cube.old.shape.columns }
     requires residuals_in { (i : ℕ) → i < length deltas.now → slice_index deltas.now i < 2 ^ cube.old.kind.bits }
     requires weights_in { AllWithin (2 ^ (settings.now.predictor.omega + 2)) weights.old }
@@ -189,21 +177,12 @@ fn invert_by<const Q: usize, const N: usize, const WRAPS: bool>(
     ensures within { AllWithin (2 ^ (settings.now.predictor.omega + 2)) weights.new }
 {
     cube.prove_is_cube();
-    let count = deltas.len();
-    let quad = Quad {
-        places: [[0; 4]; PIECE],
-    };
-    let mut quads = [quad; Q];
-    let mut sums = [0i32; PIECE];
-    fill_open_part::<Q>(settings, cube, y, x, count, &mut sums, &mut quads);
-    let run = OpenRun {
+    let run = ResidualRun {
         settings,
         y,
         x,
-        sums: &sums,
-        quads: &quads,
         weights: *weights,
         deltas,
     };
-    *weights = replace_with(cube, run, invert_places::<Q, N, WRAPS>);
+    *weights = replace_with(cube, run, invert_places::<N, WRAPS>);
 }

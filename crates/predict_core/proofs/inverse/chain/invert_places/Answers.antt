@@ -1,14 +1,11 @@
-use Rattle.std.proofs.Common.{◌≡◌, ◌+◌, ◌-◌, ◌*◌, ◌≤◌, ℕ, pos, false, refl, ap, ◌∙◌, length, get_or, SFits, w32, to_z-of_z, rules, arith, length-set}
+use Rattle.std.proofs.Common.{◌≡◌, ◌+◌, ◌*◌, ◌≤◌, ℕ, false, refl, ap, ◌∙◌, length, SFits, w32, to_z-of_z, rules, arith, length-set}
 use Rattle.std.proofs.lemmas.List.{take_all}
 use Rattle.cube_core.specs.Image.{Image, IsPlace, put}
 use Rattle.header_bits.specs.declared.params.Params.{Params}
 use Rattle.sample_prediction.specs.Predictor.{predictor_of}
 use Rattle.sample_prediction.specs.Prediction.{weight_vector}
-use Rattle.std.proofs.lemmas.Int.{ints, fits_signed_from_abs}
-use Rattle.predict_core.proofs.InverseRuns.{beside_none, beside_next, residuals_next, sum_kept, directions_kept, lower_kept}
-use Rattle.predict_core.proofs.OpenRanges.{sum_in}
-use Rattle.sample_prediction.proofs.Directions.{is_west}
-use Rattle.predict_core.proofs.Inverting.{residual_put, sample_put, weights_put}
+use Rattle.predict_core.proofs.InverseRuns.{beside_none, beside_next, residuals_next}
+use Rattle.predict_core.proofs.Inverting.{residual_put, weights_put}
 use Rattle.predict_core.proofs.Runs.{later_place}
 use Rattle.predict_core.proofs.inverse.chain.invert_places.Given as given
 use Rattle.std.proofs.lemmas.Grind.{common_steps}
@@ -22,47 +19,21 @@ loop-i-init g c = record {
   weights = λ p f. f.weights ∙ ap (weight_vector p c.args.cube c.args.run.settings.now.band) (omega arith);
   bound = c.requires.weights_in;
   steps = λ k le lt. absurd (omega (arith, lt));
-  west = (let none : c.args.run.x + 0 ≡ c.args.run.x = omega arith in rw none (rw c.of.ensures at c.west_of-west.ensures));
   whole = c.prove_is_cube.ensures.whole;
 }
 
 -- what is told of a place
-module _ (g : given.Over) (c : In-loop-i g) where
-  place : IsPlace c.args.cube.shape c.args.run.settings.now.band c.args.run.y (c.args.run.x + c.loop-i.i)
-  place = record { band = c.requires.place.band; row = c.requires.place.row; column = omega (arith, c.requires.inside, c.loop-i-test.true) }
-
-  sum_fits : SFits w32 (get_or c.args.run.sums.now c.loop-i.i (pos 0))
-  sum_fits =
-      let s = c.args.run.settings.now in let part = c.requires.parts c.loop-i.i c.loop-i-test.true in
-      let b = sum_in s.predictor c.args.cube c.prove_is_cube.ensures s.band c.args.run.y (c.args.run.x + c.loop-i.i) c.requires.later
-      (rw c.requires.columns s.wide) place in
-      rw part.sum_is (fits_signed_from_abs w32 _ (omega (arith, ints, b.0, b.1)))
-
-pub sum_with_west-sum-requires-clause-sum : goal.sum_with_west-sum-requires-clause-sum
-sum_with_west-sum-requires-clause-sum g c =
-    let d = (goal.at.sum_with_west-sum-requires-clause-sum g c).In-loop-i in let s = c.args.run.settings.now in rw (to_z-of_z (sum_fits g d))
-    (sum_kept s.predictor c.args.cube c.loop-i.cube _ _ _ _ _ (place g d) c.requires.later (rw c.requires.columns s.wide) c.loop-i.invariant.beside
-    s.count _ _ _ s.count_is s.few (c.requires.parts c.loop-i.i c.loop-i-test.true) refl)
-
-pub sample_there-sample-requires-clause-directions : goal.sample_there-sample-requires-clause-directions
-sample_there-sample-requires-clause-directions g c =
-    let d = (goal.at.sample_there-sample-requires-clause-directions g c).In-loop-i in let s = c.args.run.settings.now in
-    directions_kept s.predictor c.args.cube c.loop-i.cube _ _ _ _ _ (place g d) c.requires.later (rw c.requires.columns s.wide) c.loop-i.invariant.beside
-    s.count _ _ _ s.count_is s.few (c.requires.parts c.loop-i.i c.loop-i-test.true) (rw c.requires.quads at c.differences_at-components.ensures)
-
-pub sample_there-sample-requires-clause-lower : goal.sample_there-sample-requires-clause-lower
-sample_there-sample-requires-clause-lower g c =
-    let d = (goal.at.sample_there-sample-requires-clause-lower g c).In-loop-i in let s = c.args.run.settings.now in
-    lower_kept s.predictor c.args.cube c.loop-i.cube _ _ _ _ _ (place g d) c.requires.later (rw c.requires.columns s.wide) c.loop-i.invariant.beside
-    s.count _ _ _ s.count_is s.few (c.requires.parts c.loop-i.i c.loop-i-test.true) (rw c.requires.quads at c.differences_at-components.ensures)
+place : (g : given.Over) (c : In-loop-i g) → IsPlace c.args.cube.shape c.args.run.settings.now.band c.args.run.y (c.args.run.x + c.loop-i.i)
+place g c = record { band = c.requires.place.band; row = c.requires.place.row; column = omega (arith, c.requires.inside, c.loop-i-test.true) }
 
 pub sample_there-sample-requires-clause-residual : goal.sample_there-sample-requires-clause-residual
-sample_there-sample-requires-clause-residual g c = rw (← c.loop-i.invariant.beside.alike.kind) (c.requires.residuals_in c.loop-i.i c.loop-i-test.true)
+sample_there-sample-requires-clause-residual g c =
+    rw (c.of-rows.ensures, ← c.loop-i.invariant.beside.alike.kind) (c.requires.residuals_in c.loop-i.i c.loop-i-test.true)
 
 pub sample_there-sample-requires-clause-steps : goal.sample_there-sample-requires-clause-steps
 sample_there-sample-requires-clause-steps g c =
     let s = c.args.run.settings.now in
-    rw (← c.loop-i.invariant.beside.alike.shape, ← c.loop-i.invariant.beside.alike.kind, c.requires.kind, ← s.range.bits_is, c.requires.columns)
+    rw (c.of-rows.ensures, ← c.loop-i.invariant.beside.alike.shape, ← c.loop-i.invariant.beside.alike.kind, c.requires.kind, ← s.range.bits_is, c.requires.columns)
     (c.stretch_at-stretch.ensures.steps c.loop-i.i (omega arith) c.stretch_at-stretch.ensures.some)
 
 pub loop-i-preserved : goal.loop-i-preserved
@@ -73,23 +44,21 @@ loop-i-preserved g c =
     let is : c.set.new.self ≡ put d s.band r.y x v = simp (to_z-of_z fits) at c.set.ensures in
     let place = rw kept.beside.alike.shape at (place g (goal.at.loop-i-preserved g c).In-loop-i) in
     let later = later_place d.shape.columns r.y x (omega (arith, c.requires.later)) place.column in
-    let found = rw (← c.requires.kind, kept.beside.alike.kind) at (simp (to_z-of_z fits) at c.offset_of-west.ensures) in
+    let there = rw c.of-rows.ensures at c.sample_there-sample.ensures.inverse in
+    let moved = rw c.of-rows.ensures at c.sample_there-sample.ensures.weights in
     let wide : (p : Params) → s.predictor ≡ predictor_of p → p.column ≡ false → 2 ≤ d.shape.columns =
     λ p e. rw (← kept.beside.alike.shape, c.requires.columns) (rw e at s.wide) in
     let sum : (columns : ℕ) → r.y * columns + r.x + c.loop-i.i ≡ r.y * columns + (r.x + c.loop-i.i) = λ columns. omega arith in
-    let next : (columns : ℕ) → r.y * columns + (r.x + (c.loop-i.i + 1)) ≡ r.y * columns + (r.x + c.loop-i.i) + 1 = λ columns. omega arith in
-    let back : r.x + (c.loop-i.i + 1) - 1 ≡ r.x + c.loop-i.i = omega arith in rw is
+    let next : (columns : ℕ) → r.y * columns + (r.x + (c.loop-i.i + 1)) ≡ r.y * columns + (r.x + c.loop-i.i) + 1 = λ columns. omega arith in rw is
     (record {
       beside = beside_next c.args.cube d s.band r.y r.x c.loop-i.i v place kept.whole kept.beside;
       residuals = λ p f. residuals_next p d s.band r.y r.x c.loop-i.i v r.deltas.now place kept.whole (wide p f.predictor) c.loop-i-test.true
           (kept.residuals p f) (rw (sum d.shape.columns) (residual_put p s.predictor d _ _ _ _ v _ place kept.whole (wide p f.predictor) f.predictor refl
-          (kept.weights p f) later _ c.sample_there-sample.ensures.inverse));
+          (kept.weights p f) later _ there));
       weights = λ p f. rw (next d.shape.columns) (weights_put p s.predictor d _ _ _ _ v _ place kept.whole (wide p f.predictor) f.predictor refl
-          (kept.weights p f) later _ c.sample_there-sample.ensures.weights);
+          (kept.weights p f) later _ moved);
       bound = c.sample_there-sample.ensures.bound;
       steps = λ k le lt. c.stretch_at-stretch.ensures.steps k (omega (arith, le)) lt;
-      west = is_west (put d s.band r.y x v) s.band r.y (r.x + (c.loop-i.i + 1)) c.offset_of-west.result (omega arith)
-          (rw back (sample_put d s.band r.y x v place kept.whole ∙ found));
       whole = rw length-set kept.whole;
     })
 
@@ -101,9 +70,6 @@ pub returns-clause-residuals : goal.returns-clause-residuals
 returns-clause-residuals g c p f =
     let kept = c.loop-i.invariant in let done : c.loop-i.i ≡ length c.args.run.deltas.now = omega (arith, c.loop-i-test.false, c.loop-i.auto.i-end) in
     rw kept.beside.alike.shape ((rw done at (kept.residuals p f)) ∙ take_all _ _ (omega arith))
-
-pub west_of-west-requires-clause-later : goal.west_of-west-requires-clause-later
-west_of-west-requires-clause-later g c = omega arith
 
 pub stretch_at-stretch-requires-clause-here : goal.stretch_at-stretch-requires-clause-here
 stretch_at-stretch-requires-clause-here g c = omega arith

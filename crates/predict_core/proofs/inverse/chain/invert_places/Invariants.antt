@@ -4,7 +4,6 @@ use Rattle.header_bits.specs.declared.params.Params.{Params}
 use Rattle.sample_prediction.specs.Bounds.{AllWithin}
 use Rattle.sample_prediction.specs.Chain.{AreWeightsAt}
 use Rattle.sample_prediction.specs.Prediction.{weight_vector}
-use Rattle.sample_prediction.specs.OffsetSum.{IsWest}
 use Rattle.sample_prediction.specs.Residual.{run_residuals}
 use Rattle.predict_core.specs.RunPlaces.{AreAlikeBeside}
 use Rattle.predict_core.specs.Steps.{AreSteps}
@@ -24,6 +23,5 @@ invariant-loop-i g l = record {
   steps : (k : ℕ) → l.i ≤ k → k < l.stretch.end → AreSteps l.stretch.shift l.fn.run.settings.now.range.bits
       (step_exponent l.fn.run.settings.now.predictor l.fn.run.settings.now.columns l.fn.run.settings.now.range.bits
       (l.fn.run.y * l.fn.run.settings.now.columns + (l.fn.run.x + k)));
-  west : IsWest l.cube l.fn.run.settings.now.band l.fn.run.y (l.fn.run.x + l.i) l.west;
   whole : length l.cube.samples ≡ sample_count l.cube.shape;
 }
