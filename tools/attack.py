@@ -8,8 +8,9 @@ function that isn't proved, and says so of each, so edits of different functions
 proved before (`make all`). A function that calls an edited one isn't judged in that check, and its own edit is tried again in the next
 one. An edit that changes more than the body of one function is tried alone, as is one that a check doesn't clearly refuse.
 
-Prints a line for each edit that isn't refused as it should be, a line as each crate ends, and `N passed, M failed`. An edit fails if the
-crate is still proved with it, if it can't be applied or read, or if it is refused only since a proof names what it takes away.
+Prints a line as each round of checks of a crate ends, a line for each edit that isn't refused as it should be, a line as each crate ends,
+and `N passed, M failed`. An edit fails if the crate is still proved with it, if it can't be applied or read, or if it is refused only since
+a proof names what it takes away.
 """
 
 import os
@@ -204,7 +205,10 @@ def run(attack, pool):
     groups = pool.submit(attack.prepare).result()
     while groups:
         left = list(pool.map(attack.attempt, groups))
-        groups = [[it] for alone, _ in left for it in alone] + grouped([it for _, again in left for it in again])
+        alone, again = [[it] for some, _ in left for it in some], grouped([it for _, some in left for it in some])
+        minutes = (time.monotonic() - start) / 60
+        print(f"{attack.crate}: {sum(map(len, alone + again))} edits left, in {len(alone + again)} checks, after {minutes:.1f} minutes", flush=True)
+        groups = alone + again
     for line in attack.wrong:
         print(f"FAILED: {line}", flush=True)
     well = len(attack.edits) - min(len(attack.wrong), len(attack.edits)) if attack.known else 0
